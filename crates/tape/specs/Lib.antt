@@ -1,1 +1,5 @@
+pub mod Faults
+pub mod Headings
+pub mod Kinds
 pub mod Numbers
+pub mod Spots

@@ -44,11 +44,6 @@ read-groups i (byte ∷ bytes) =
 unfoldable pub read-number : List ℕ → Result (ℕ × ℕ) NumberFault
 read-number bytes = read-groups 0 bytes
 
--- The place that a number's fault names.
-abbrev pub fault-place : NumberFault → ℕ
-fault-place (Cut place) = place
-fault-place (Form place) = place
-
 -- Each of these numbers is a byte.
 abbrev pub Bytes : List ℕ → Type 0
 Bytes bytes = (k : ℕ) → getD bytes k 0 < 256

@@ -1,3 +1,8 @@
 // Tapes: how the archive's jobs are handed to it as bytes.
+mod cursor;
 pub mod fault;
+pub mod heading;
+pub mod kind;
 pub mod number;
+mod reader;
+pub mod refusal;

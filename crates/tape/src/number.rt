@@ -10,7 +10,8 @@ ghost use Prim.Native.Nat.{ℕ, _+_, _*_, _-_, _%_, _<_, _≤_};
 ghost use lib.ListN.{length};
 ghost use Rattle.std.specs.Of.Vec.{vec-items};
 ghost use Rattle.std.specs.Results.{isOk, Cases};
-ghost use Rattle.tape.specs.Numbers.{byte-form, read-number, over-top, padded, fault-place, One-form};
+ghost use Rattle.tape.specs.Numbers.{byte-form, read-number, over-top, padded, One-form};
+ghost use Rattle.tape.specs.Faults.{number-place};
 
 // A byte below this is the last of its number.
 const HIGH: u8 = 128;
@@ -46,7 +47,7 @@ fn group(b: u8) -> u32
 // The number at the front of some bytes, and how many of them it takes.
 pub fn decode(bytes: &[u8]) -> Result<(u32, usize), NumberFault>
     ensures value { λ r. ⌜ r ≡ read-number (now (bytes .entry)) ⌝ }
-    ensures within { λ r. ⌜ Cases r (λ x. (0 < x .1) × (x .1 ≤ length (now (bytes .entry)))) (λ f. fault-place f ≤ length (now (bytes .entry))) ⌝ }
+    ensures within { λ r. ⌜ Cases r (λ x. (0 < x .1) × (x .1 ≤ length (now (bytes .entry)))) (λ f. number-place f ≤ length (now (bytes .entry))) ⌝ }
     ensures law { λ _. ⌜ One-form ⌝ }
 {
     let mut value: u32 = 0;
