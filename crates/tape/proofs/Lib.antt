@@ -1,3 +1,5 @@
+pub mod Codes
 pub mod Forms
 pub mod Groups
+pub mod Remarks
 pub mod Steps

@@ -2,6 +2,7 @@
 mod cursor;
 pub mod fault;
 pub mod heading;
+pub mod item;
 pub mod kind;
 pub mod number;
 mod reader;

@@ -1,12 +1,42 @@
-// Reading one number where a cursor stands.
+// Reading bytes and numbers where a cursor stands.
 use crate::cursor::Cursor;
 use crate::fault::NumberFault;
 use crate::number::decode;
 
 ghost use mathlib.Core.Path.{_≡_};
-ghost use Prim.Native.Nat.{ℕ, _≤_, _<_};
-ghost use lib.ListN.{length};
-ghost use Rattle.tape.specs.Spots.{spot, told, number-at};
+ghost use Prim.Native.Nat.{ℕ, _+_, _^_, _≤_, _<_};
+ghost use lib.ListN.{length, take};
+ghost use mathlib.Core.List.{List};
+ghost use Rattle.tape.specs.Spots.{spot, past, told, number-at};
+
+impl Cursor {
+    // Goes on by `count` bytes.
+    pub(crate) fn pass(&mut self, count: usize)
+        requires { ⌜ now self .place + count ≤ now self .end ⌝ ∗ ⌜ now self .end < 2 ^ 64 ⌝ }
+        ensures moved { λ _. ⌜ ((tape : List ℕ) → spot tape (now (self .exit)) ≡ past count (spot tape (now (self .entry)))) ⌝ }
+        ensures end { λ _. ⌜ now (self .exit) .end ≡ now (self .entry) .end ⌝ }
+    {
+        self.place += count;
+    }
+}
+
+// How many bytes there are from the cursor to its end.
+pub(crate) fn bytes_left(tape: &[u8], at: &Cursor) -> usize
+    requires { ⌜ now at .end ≤ length (now tape) ⌝ }
+    ensures value { λ r. ⌜ r ≡ length (spot (now (tape .entry)) (now (at .entry)) .bytes) ⌝ }
+    ensures sum { λ r. ⌜ now (at .entry) .place + r ≡ now (at .entry) .end ⌝ }
+{
+    at.end - at.place
+}
+
+// The next `count` bytes.
+pub(crate) fn next_bytes<'a>(tape: &'a [u8], at: &Cursor, count: usize) -> &'a [u8]
+    requires { ⌜ now at .end ≤ length (now tape) ⌝ ∗ ⌜ now at .place + count ≤ now at .end ⌝ }
+    ensures value { λ r. ⌜ now r ≡ take count (spot (now (tape .entry)) (now (at .entry)) .bytes) ⌝ }
+    ensures len { λ r. ⌜ length (now r) ≡ count ⌝ }
+{
+    &tape[at.place..at.place + count]
+}
 
 // The number where the cursor stands, which then stands behind it.
 pub(crate) fn next_number(tape: &[u8], at: &mut Cursor) -> Result<u32, NumberFault>
@@ -16,7 +46,7 @@ pub(crate) fn next_number(tape: &[u8], at: &mut Cursor) -> Result<u32, NumberFau
 {
     match decode(&tape[at.place..at.end]) {
         Ok((value, taken)) => {
-            at.place += taken;
+            at.pass(taken);
             Ok(value)
         }
         Err(fault) => Err(fault.shift(at.place)),

@@ -1,22 +1,16 @@
-use Prim.Native.Nat.{_+_, _≤_}
-use native.Mathlib.Omega.{arith}
-use mathlib.Core.Path.{_≡_, refl, sym, ap, _∙_}
-use lib.ListN.{length}
-use borrow.Author.Needs.{needs}
+use mathlib.Core.Path.{_≡_, refl, ap, _∙_}
 use Rattle.std.specs.declared.result.Result.the-variants.{Ok, Err}
 use Rattle.tape.specs.Spots.{number-at, number-from, spot}
-use Rattle.tape.proofs.Steps.{spot-past}
 use Rattle.tape.proofs.reader.next_number.Needs as need
 
 pub returns-in-Ok : need.returns-in-Ok
 unfolding number-at
 returns-in-Ok c =
-    let here = spot (c .args .tape .now) (c .args .at .now) in
-    let r = c .in-Ok .ensures tt in
-    let h : c .args .at .now .place + c .in-Ok .taken ≤ c .args .at .now .end = search needs in
+    let tape = c .args .tape .now in
+    let here = spot tape (c .args .at .now) in
     record {
-        value = ap (λ s. Ok (c .in-Ok .value, s)) (sym (spot-past (c .args .tape .now) (c .args .at .now .place) (c .args .at .now .end) (c .in-Ok .taken) h)) ∙ ap (number-from here) (r .value);
-        end = refl
+        value = ap (λ s. Ok (c .in-Ok .value, s)) (c .pass .ensures .moved tape) ∙ ap (number-from here) (c .in-Ok .ensures tt .value);
+        end = c .pass .ensures .end
     }
 
 pub returns-in-Err : need.returns-in-Err
