@@ -1,5 +1,12 @@
+pub mod Backs
 pub mod Codes
+pub mod Fills
 pub mod Forms
 pub mod Groups
+pub mod Judged
+pub mod Parts
+pub mod Readings
 pub mod Remarks
 pub mod Steps
+pub mod Turns
+pub mod Wholes

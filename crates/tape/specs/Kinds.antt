@@ -23,8 +23,12 @@ manager-number manager.Timid = 0
 manager-number manager.TwoPhase = 1
 manager-number manager.Greedy = 2
 
+abbrev pub managers : List ManagerKind
+managers = manager.Timid ∷ manager.TwoPhase ∷ manager.Greedy ∷ []
+
+-- The manager that a number names.
 abbrev pub manager-of : ℕ → Option ManagerKind
-manager-of n = with-number manager-number (manager.Timid ∷ manager.TwoPhase ∷ manager.Greedy ∷ []) n
+manager-of n = with-number manager-number managers n
 
 -- The number of each store.
 abbrev pub store-number : StoreKind → ℕ
@@ -32,8 +36,12 @@ store-number store.Number = 0
 store-number store.Byte = 1
 store-number store.Window = 2
 
+abbrev pub stores : List StoreKind
+stores = store.Number ∷ store.Byte ∷ store.Window ∷ []
+
+-- The store that a number names.
 abbrev pub store-of : ℕ → Option StoreKind
-store-of n = with-number store-number (store.Number ∷ store.Byte ∷ store.Window ∷ []) n
+store-of n = with-number store-number stores n
 
 -- The most words that a book in a store has: the window leaves sixteen of the 4,096 below it.
 abbrev pub most-words : StoreKind → ℕ
@@ -52,8 +60,9 @@ item-code item.Quit = 6
 item-code item.Look = 7
 item-code item.Remark = 8
 
+abbrev pub item-kinds : List ItemKind
+item-kinds = item.Start ∷ item.Read ∷ item.Write ∷ item.Seal ∷ item.Put ∷ item.Quit ∷ item.Look ∷ item.Remark ∷ []
+
+-- The kind of item that a code begins.
 abbrev pub item-kind-of : ℕ → Option ItemKind
-item-kind-of n =
-    with-number item-code
-    (item.Start ∷ item.Read ∷ item.Write ∷ item.Seal ∷ item.Put ∷ item.Quit ∷ item.Look ∷ item.Remark ∷ [])
-    n
+item-kind-of n = with-number item-code item-kinds n

@@ -2,5 +2,8 @@ pub mod Faults
 pub mod Headings
 pub mod Items
 pub mod Kinds
+pub mod Laws
 pub mod Numbers
 pub mod Spots
+pub mod Tapes
+pub mod Written

@@ -6,4 +6,5 @@ pub mod item;
 pub mod kind;
 pub mod number;
 mod reader;
+pub mod reading;
 pub mod refusal;

@@ -1,0 +1,138 @@
+-- What is known of an answer at a spot: what was read is the front of the bytes there, and a fault lies among them or right behind them.
+use Prim.Native.Nat.{ℕ, zero, suc, _+_, _<_, _≤_, _^_}
+use native.Mathlib.Omega.{arith}
+use mathlib.Core.Path.{_≡_, refl, sym, ap, subst, _∙_}
+use mathlib.Core.Bool.{Bool, true, false, cond}
+use mathlib.Core.List.{List, [], _∷_, _++_, append-assoc, append-nil}
+use lib.ListN.{length, getD, drop, length-append}
+use Rattle.std.proofs.shelf.Lists.{getD-append-add}
+use Rattle.std.specs.declared.result.Result.{Result}
+use Rattle.std.specs.declared.result.Result.the-variants.{Ok, Err}
+use Rattle.tape.specs.declared.fault.NumberFault.{NumberFault}
+use Rattle.tape.specs.declared.fault.NumberFault.the-variants.{Cut, Form}
+use Rattle.tape.specs.Faults.{number-place, shifted}
+use Rattle.tape.specs.Numbers.{Bytes, byte-form, over-top, padded, below, read-groups, read-number}
+use Rattle.tape.specs.Spots.{Spot, past, number-at, number-from, wrapped, and-then, field}
+use Rattle.tape.specs.Written.{Is-word}
+use Rattle.tape.proofs.Forms.{only-form}
+
+-- A place among the bytes from a spot on, or right behind them.
+pub record Inside (here : Spot) (p : ℕ) : Type 0 where
+  pub low : here .place ≤ p
+  pub high : p ≤ here .place + length (here .bytes)
+
+-- The bytes `form` stand between two spots.
+pub record Took (here : Spot) (form : List ℕ) (after : Spot) : Type 0 where
+  pub split : here .bytes ≡ form ++ after .bytes
+  pub moved : after .place ≡ here .place + length form
+
+-- An answer at a spot: R holds of what was read and the bytes that it took; a fault lies behind the spot `from`.
+abbrev pub Judged : {X E : Type 0} → (X → List ℕ → Type 0) → (E → ℕ) → (from here : Spot) → Result (X × Spot) E → Type 0
+Judged R place from here (Ok x) = (form : List ℕ) × R (x .0) form × Took here form (x .1)
+Judged R place from here (Err fault) = Inside from (place fault)
+
+pub bytes-behind : (form rest : List ℕ) → Bytes (form ++ rest) → Bytes rest
+bytes-behind form rest h k = subst (λ n. n < 256) (getD-append-add form rest k 0) (h (length form + k))
+
+pub took-bytes : {here after : Spot} {form : List ℕ} → Took here form after → Bytes (here .bytes) → Bytes (after .bytes)
+took-bytes {here} {after} {form} t h = bytes-behind form (after .bytes) (λ k. subst (λ (bs : List ℕ). getD bs k 0 < 256) (t .split) (h k))
+
+-- A fault behind some bytes that were taken.
+pub inside-behind : {here after : Spot} {form : List ℕ} (p : ℕ) → Took here form after → Inside after p → Inside here p
+inside-behind {here} {after} {form} p t i =
+    let l : length (here .bytes) ≡ length form + length (after .bytes) = ap length (t .split) ∙ length-append form (after .bytes) in
+    let e = t .moved in
+    let a = i .low in
+    let b = i .high in
+    record { low = omega arith; high = omega arith }
+
+-- Some bytes, then others.
+pub took-both : {here mid after : Spot} {first second : List ℕ} → Took here first mid → Took mid second after → Took here (first ++ second) after
+took-both {here} {mid} {after} {first} {second} t u =
+    let e = t .moved in
+    let f = u .moved in
+    let l : length (first ++ second) ≡ length first + length second = length-append first second in
+    record { split = t .split ∙ ap (λ bs. first ++ bs) (u .split) ∙ sym (append-assoc first second (after .bytes)); moved = omega arith }
+
+below-place : (d n : ℕ) (r : Result (ℕ × ℕ) NumberFault) (fault : NumberFault) → below d r ≡ Err fault → r ≡ Err fault
+below-place d n (Ok x) fault e = let z : _≡_ {A = ℕ} 0 1 = cc in absurd (omega arith)
+below-place d n (Err f) fault e = e
+
+step-place : (t q s : Bool) (b i d n : ℕ) (r : Result (ℕ × ℕ) NumberFault) (fault : NumberFault) → (r ≡ Err fault → number-place fault ≤ n)
+    → cond t (Err (Form 0)) (cond q (cond s (Err (Form 0)) (Ok (b, i))) (below d r)) ≡ Err fault → number-place fault ≤ n
+step-place true q s b i d n r fault f e = let z : Form 0 ≡ fault = cc in subst (λ (x : NumberFault). number-place x ≤ n) z (omega arith)
+step-place false true true b i d n r fault f e = let z : Form 0 ≡ fault = cc in subst (λ (x : NumberFault). number-place x ≤ n) z (omega arith)
+step-place false true false b i d n r fault f e = let z : _≡_ {A = ℕ} 0 1 = cc in absurd (omega arith)
+step-place false false s b i d n r fault f e = f (below-place d n r fault e)
+
+groups-place : (i : ℕ) (bytes : List ℕ) (fault : NumberFault) → read-groups i bytes ≡ Err fault → number-place fault ≤ i + length bytes
+groups-place i [] fault e = let z : Cut i ≡ fault = cc in subst (λ (x : NumberFault). number-place x ≤ i + 0) z (omega arith)
+groups-place i (b ∷ bytes) fault e =
+    step-place (over-top i b) _ (padded i b) b (i + 1) _ (i + suc (length bytes)) (read-groups (i + 1) bytes) fault
+    (λ h. let g = groups-place (i + 1) bytes fault h in omega arith) e
+
+pub number-inside : (bytes : List ℕ) (fault : NumberFault) → read-number bytes ≡ Err fault → number-place fault ≤ length bytes
+unfolding read-number
+number-inside bytes fault e = let h = groups-place 0 bytes fault e in omega arith
+
+-- A number that was read, and the bytes that it took.
+abbrev pub Number-read : ℕ → List ℕ → Type 0
+Number-read n form = Is-word n × (form ≡ byte-form n)
+
+shifted-inside : (here : Spot) (fault : NumberFault) → number-place fault ≤ length (here .bytes) → Inside here (number-place (shifted (here .place) fault))
+shifted-inside here (Cut place) h = record { low = omega arith; high = omega arith }
+shifted-inside here (Form place) h = record { low = omega arith; high = omega arith }
+
+number-by : (here : Spot) → Bytes (here .bytes) → (r : Result (ℕ × ℕ) NumberFault) → read-number (here .bytes) ≡ r → Judged Number-read number-place here here (number-from here r)
+number-by here f (Ok x) e =
+    let o = only-form (here .bytes) (x .0) (x .1) f e in
+    (byte-form (x .0), (o .0, refl), record { split = o .2; moved = ap (λ k. here .place + k) (o .1) })
+number-by here f (Err fault) e = shifted-inside here fault (number-inside (here .bytes) fault e)
+
+pub number-judged : (here : Spot) → Bytes (here .bytes) → Judged Number-read number-place here here (number-at here)
+unfolding number-at
+number-judged here f = number-by here f (read-number (here .bytes)) refl
+
+-- What is judged behind some bytes, seen from the spot before them.
+pub seen-from : {X E : Type 0} {here after : Spot} {form : List ℕ} (R : X → List ℕ → Type 0) (place : E → ℕ) (r : Result (X × Spot) E)
+    → Took here form after → Judged R place after after r → Judged R place here after r
+seen-from R place (Ok x) t j = j
+seen-from R place (Err fault) t j = inside-behind (place fault) t j
+
+pub behind : {X E : Type 0} {here after : Spot} {form : List ℕ} (R : X → List ℕ → Type 0) (place : E → ℕ) (r : Result (X × Spot) E)
+    → Took here form after → Judged (λ x more. R x (form ++ more)) place here after r → Judged R place here here r
+behind {form = form} R place (Ok x) t j = (form ++ j .0, j .1, took-both t (j .2))
+behind R place (Err fault) t j = j
+
+-- One part after another.
+pub then-judged : {X Y E : Type 0} (S : X → List ℕ → Type 0) (R : Y → List ℕ → Type 0) (place : E → ℕ) (here : Spot) (r : Result (X × Spot) E) (next : X → Spot → Result (Y × Spot) E)
+    → Bytes (here .bytes) → Judged S place here here r
+    → ((x : X) (after : Spot) (form : List ℕ) → S x form → Bytes (after .bytes) → Took here form after → Judged (λ y more. R y (form ++ more)) place here after (next x after))
+    → Judged R place here here (and-then r next)
+then-judged S R place here (Ok x) next f j n = behind R place (next (x .0) (x .1)) (j .2) (n (x .0) (x .1) (j .0) (j .1) (took-bytes (j .2) f) (j .2))
+then-judged S R place here (Err fault) next f j n = j
+
+wrapped-judged : {E : Type 0} (place : E → ℕ) (wrap : NumberFault → E) → ((fault : NumberFault) → place (wrap fault) ≡ number-place fault) → (here : Spot) (r : Result (ℕ × Spot) NumberFault)
+    → Judged Number-read number-place here here r → Judged Number-read place here here (wrapped wrap r)
+wrapped-judged place wrap w here (Ok x) j = j
+wrapped-judged place wrap w here (Err fault) j = subst (λ p. Inside here p) (sym (w fault)) j
+
+-- A number, then the rest of the part.
+pub field-judged : {X E : Type 0} (R : X → List ℕ → Type 0) (place : E → ℕ) (wrap : NumberFault → E) → ((fault : NumberFault) → place (wrap fault) ≡ number-place fault)
+    → (here : Spot) (next : ℕ → Spot → Result (X × Spot) E) → Bytes (here .bytes)
+    → ((n : ℕ) (after : Spot) → Is-word n → Bytes (after .bytes) → Took here (byte-form n) after → Judged (λ x more. R x (byte-form n ++ more)) place here after (next n after))
+    → Judged R place here here (field wrap here next)
+field-judged R place wrap w here next f k =
+    then-judged Number-read R place here (wrapped wrap (number-at here)) next f (wrapped-judged place wrap w here (number-at here) (number-judged here f))
+    (λ n after form s g t.
+        let u : Took here (byte-form n) after = subst (λ bs. Took here bs after) (s .1) t in
+        subst (λ bs. Judged (λ x more. R x (bs ++ more)) place here after (next n after)) (sym (s .1)) (k n after (s .0) g u))
+
+-- Nothing more.
+pub done-judged : {X E : Type 0} (R : X → List ℕ → Type 0) (place : E → ℕ) (from here : Spot) (x : X) → R x [] → Judged {E = E} R place from here (Ok (x, here))
+done-judged R place from here x r = ([], r, record { split = refl; moved = omega arith })
+
+-- Something else of what was read.
+pub judged-map : {X E : Type 0} (R S : X → List ℕ → Type 0) (place : E → ℕ) (from here : Spot) (r : Result (X × Spot) E) → ((x : X) (form : List ℕ) → R x form → S x form) → Judged R place from here r → Judged S place from here r
+judged-map R S place from here (Ok x) f j = (j .0, f (x .0) (j .0) (j .1), j .2)
+judged-map R S place from here (Err fault) f j = j
