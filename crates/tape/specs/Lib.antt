@@ -1,8 +1,10 @@
 pub mod Faults
+pub mod Figures
 pub mod Headings
 pub mod Items
 pub mod Kinds
 pub mod Laws
+pub mod Lines
 pub mod Numbers
 pub mod Spots
 pub mod Tapes

@@ -4,6 +4,7 @@ pub mod fault;
 pub mod heading;
 pub mod item;
 pub mod kind;
+pub mod listing;
 pub mod number;
 mod reader;
 pub mod reading;

@@ -12,6 +12,7 @@ ghost use Rattle.std.specs.Of.Vec.{vec-items};
 ghost use Rattle.std.specs.Results.{isOk, Cases};
 ghost use Rattle.tape.specs.Numbers.{byte-form, read-number, over-top, padded, One-form};
 ghost use Rattle.tape.specs.Faults.{number-place};
+ghost use Rattle.tape.specs.Figures.{Number-figures};
 
 // A byte below this is the last of its number.
 const HIGH: u8 = 128;
@@ -81,4 +82,10 @@ pub fn encode(value: u32, out: &mut Vec<u8>) -> Result<(), AllocError>
     }
     out.push_reserved(rest as u8);
     Ok(())
+}
+
+// Shows the figures by which the definitions can be judged.
+pub fn figures()
+    ensures { λ _. ⌜ Number-figures ⌝ }
+{
 }

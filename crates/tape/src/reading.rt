@@ -65,6 +65,13 @@ impl<'a> Tape<'a> {
         read_items(bytes, &mut at, &mut self.items)
     }
 
+    // How many items could be read.
+    pub fn count(&self) -> usize
+        ensures { λ r. ⌜ r ≡ length (reading (now (self .entry)) .items) ⌝ }
+    {
+        self.items.len()
+    }
+
     // The number of the item at fault, 0 where it is the heading, or the whole tape.
     pub fn faulty_item(&self) -> usize
         ensures { λ r. ⌜ r ≡ faulty-item (reading (now (self .entry))) ⌝ }
