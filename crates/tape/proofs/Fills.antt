@@ -1,11 +1,13 @@
 -- A blank tape, filled from bytes.
-use Prim.Native.Nat.{ℕ, _-_, _<_, _≤_}
+use Prim.Native.Nat.{ℕ, _-_}
 use native.Mathlib.Omega.{arith}
 use mathlib.Core.Path.{_≡_, refl, sym, ap, ap₂, _∙_}
+use mathlib.Core.Bool.{true, false}
 use mathlib.Core.List.{List, [], _++_, map}
+use lib.Dec.{ltb}
 use lib.ListN.{length, take, drop}
 use Rattle.std.proofs.shelf.Lists.{take-all}
-use Rattle.std.proofs.shelf.Tests.{lt-ltb, le-ltb, cond-true, cond-false}
+use Rattle.std.proofs.shelf.Tests.{cond-true, cond-false}
 use Rattle.std.specs.Of.Vec.{vec-items}
 use Rattle.std.specs.declared.option.Option.{Option}
 use Rattle.std.specs.declared.option.Option.the-variants.{Some, None}
@@ -36,14 +38,14 @@ parts-of tape h items was fault eh ei ef =
 pub start-spot : (tape : List ℕ) → _≡_ {A = Spot} (record { place = 0; bytes = take (length tape - 0) (drop 0 tape) }) (at 0 tape)
 start-spot tape = ap (at 0) (take-all (length tape - 0) tape (omega arith))
 
-pub says-long : (tape : List ℕ) → most-bytes < length tape → tape-says tape ≡ unread program.TooLong
+pub says-long : (tape : List ℕ) → ltb most-bytes (length tape) ≡ true → tape-says tape ≡ unread program.TooLong
 unfolding tape-says
-says-long tape h = cond-true _ _ _ (lt-ltb most-bytes (length tape) h)
+says-long tape h = cond-true _ _ _ h
 
-pub says-headed : (tape : List ℕ) (r : Result (Heading × Spot) HeadingFault) → length tape ≤ most-bytes
+pub says-headed : (tape : List ℕ) (r : Result (Heading × Spot) HeadingFault) → ltb most-bytes (length tape) ≡ false
     → r ≡ heading-at (record { place = 0; bytes = take (length tape - 0) (drop 0 tape) }) → tape-says tape ≡ after-heading r
 unfolding tape-says
-says-headed tape r h e = cond-false _ _ _ (le-ltb most-bytes (length tape) h) ∙ ap (λ s. after-heading (heading-at s)) (sym (start-spot tape)) ∙ ap after-heading (sym e)
+says-headed tape r h e = cond-false _ _ _ h ∙ ap (λ s. after-heading (heading-at s)) (sym (start-spot tape)) ∙ ap after-heading (sym e)
 
 pub blank-items : (items : List Item) → items ≡ [] → map said items ≡ []
 blank-items items e = ap (map said) e

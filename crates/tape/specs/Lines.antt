@@ -50,8 +50,8 @@ item-text (look job) = codes "look " ++ decimal job
 item-text (remark bytes) = remark-text bytes
 
 -- An item's line.
-unfoldable pub item-line : (number : ℕ) → Said → List ℕ
-item-line number it = decimal number ++ (codes " " ++ (item-text it ++ (10 ∷ [])))
+abbrev pub item-line : (number : ℕ) → Said → List ℕ
+item-line number it = ((decimal number ++ codes " ") ++ item-text it) ++ (10 ∷ [])
 
 -- The lines of some items, numbered on from `number`.
 abbrev pub item-lines : (number : ℕ) → List Said → List ℕ
@@ -73,7 +73,7 @@ first-line (Some h) = codes "heading: " ++ (heading-text h ++ (10 ∷ []))
 
 -- The listing of a tape, as far as it could be read.
 abbrev pub listing-text : Reading → List ℕ
-listing-text r = first-line (r .heading) ++ (item-lines 1 (r .items) ++ last-line r)
+listing-text r = (first-line (r .heading) ++ item-lines 1 (r .items)) ++ last-line r
 
 -- A remark that a tape holds is listed as its very bytes.
 abbrev pub Remarks-stand : Type 0

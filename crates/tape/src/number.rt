@@ -45,6 +45,13 @@ fn group(b: u8) -> u32
     u32::from(b % HIGH)
 }
 
+// The byte of a number's lowest group, where others follow.
+fn high_byte(rest: u32) -> u8
+    ensures { λ r. ⌜ r ≡ rest % 128 + 128 ⌝ }
+{
+    (rest % GROUP) as u8 + HIGH
+}
+
 // The number at the front of some bytes, and how many of them it takes.
 pub fn decode(bytes: &[u8]) -> Result<(u32, usize), NumberFault>
     ensures value { λ r. ⌜ r ≡ read-number (now (bytes .entry)) ⌝ }
@@ -77,7 +84,7 @@ pub fn encode(value: u32, out: &mut Vec<u8>) -> Result<(), AllocError>
     out.reserve(MOST)?;
     let mut rest = value;
     while rest >= GROUP {
-        out.push_reserved((rest % GROUP) as u8 + HIGH);
+        out.push_reserved(high_byte(rest));
         rest /= GROUP;
     }
     out.push_reserved(rest as u8);

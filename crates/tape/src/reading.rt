@@ -14,6 +14,7 @@ use std::alloc::Global;
 ghost use mathlib.Core.Path.{_≡_};
 ghost use mathlib.Core.List.{List, [], map, _++_};
 ghost use Prim.Native.Nat.{ℕ, _+_, _-_, _≤_};
+ghost use lib.Dec.{ltb};
 ghost use lib.ListN.{length};
 ghost use Rattle.std.specs.Of.Vec.{vec-items, vec-len, vec-cap};
 ghost use Rattle.std.specs.Results.{errPart};
@@ -33,6 +34,13 @@ pub struct Tape<'a> {
     pub items: Vec<Item<'a>>,
     // What stopped the reading before the tape's end.
     pub fault: Option<ProgramFault>,
+}
+
+// Whether some bytes are more than a tape may have.
+fn is_too_long(bytes: &[u8]) -> bool
+    ensures { λ r. ⌜ r ≡ ltb most-bytes (length (now (bytes .entry))) ⌝ }
+{
+    bytes.len() > MOST_BYTES
 }
 
 // Adds the items from the cursor on to `items`, which has room for them, up to the tape's end or the first fault.
@@ -56,7 +64,7 @@ impl<'a> Tape<'a> {
         requires room { ⌜ (length (now bytes) ≤ most-bytes → length (now bytes) ≤ vec-cap (now self .items)) ⌝ }
         ensures { λ r. ⌜ stopped (now (self .exit)) (errPart r) ≡ tape-says (now (bytes .entry)) ⌝ }
     {
-        if bytes.len() > MOST_BYTES {
+        if is_too_long(bytes) {
             return Err(ProgramFault::TooLong);
         }
         let mut at = Cursor { place: 0, end: bytes.len() };
@@ -66,7 +74,7 @@ impl<'a> Tape<'a> {
     }
 
     // How many items could be read.
-    pub fn count(&self) -> usize
+    pub(crate) fn count(&self) -> usize
         ensures { λ r. ⌜ r ≡ length (reading (now (self .entry)) .items) ⌝ }
     {
         self.items.len()

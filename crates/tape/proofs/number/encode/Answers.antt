@@ -30,7 +30,7 @@ step (suc j) n len cap was now all h l room e p =
 pub loop-rest-again : need.loop-rest-again
 loop-rest-again c =
     let i = c .loop-rest .inv in
-    let s = step (i .0) (c .loop-rest .rest) _ _ _ _ _ (c .loop-rest-test .taken) (i .1) (i .2) (i .3) (c .push-reserved .ensures .items) in
+    let s = step (i .0) (c .loop-rest .rest) _ _ _ _ _ (c .loop-rest-test .taken) (i .1) (i .2) (i .3) (c .push-reserved .ensures .items ∙ ap (λ b. vec-items (c .loop-rest .out) ++ b ∷ []) (c .high-byte .ensures)) in
     (s .0, s .1, rw (c .push-reserved .ensures .len, c .push-reserved .ensures .capacity) (s .2), s .3)
 
 pub returns : need.returns
