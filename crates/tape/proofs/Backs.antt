@@ -13,7 +13,7 @@ use Rattle.std.specs.declared.option.Option.{Option}
 use Rattle.std.specs.declared.option.Option.the-variants.{Some}
 use Rattle.std.specs.declared.result.Result.{Result}
 use Rattle.std.specs.declared.result.Result.the-variants.{Ok, Err}
-use Rattle.tape.specs.declared.fault.NumberFault.{NumberFault}
+use Rattle.tape_number.specs.declared.fault.NumberFault.{NumberFault}
 use Rattle.tape.specs.declared.fault.HeadingFault.the-variants as in-heading
 use Rattle.tape.specs.declared.fault.ItemFault.the-variants as in-item
 use Rattle.tape.specs.declared.heading.Heading.{Heading}
@@ -26,10 +26,10 @@ use Rattle.tape.specs.declared.kind.StoreKind.the-variants as store
 use Rattle.tape.specs.Headings.{known, kind-at, fits-store, words-at, heading-at}
 use Rattle.tape.specs.Items.{Said, start, read, write, seal, put, quit, look, remark, remark-of, remark-at, remark-length, printable-front, fields-at, coded, item-at}
 use Rattle.tape.specs.Kinds.{item-code, item-kind-of, manager-number, manager-of, store-number, store-of}
-use Rattle.tape.specs.Numbers.{byte-form}
+use Rattle.tape_number.specs.Numbers.{byte-form}
 use Rattle.tape.specs.Spots.{Spot, number-at, number-from, wrapped, and-then, field}
 use Rattle.tape.specs.Written.{Is-word, kind-of, fields-form, item-form, Sound-item, heading-form, Sound-heading}
-use Rattle.tape.proofs.Forms.{reads-back}
+use Rattle.tape_number.proofs.Forms.{reads-back}
 
 abbrev pub at : ℕ → List ℕ → Spot
 at place bytes = record { place = place; bytes = bytes }

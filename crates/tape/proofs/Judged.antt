@@ -8,13 +8,13 @@ use lib.ListN.{length, getD, drop, length-append}
 use Rattle.std.proofs.shelf.Lists.{getD-append-add}
 use Rattle.std.specs.declared.result.Result.{Result}
 use Rattle.std.specs.declared.result.Result.the-variants.{Ok, Err}
-use Rattle.tape.specs.declared.fault.NumberFault.{NumberFault}
-use Rattle.tape.specs.declared.fault.NumberFault.the-variants.{Cut, Form}
-use Rattle.tape.specs.Faults.{number-place, shifted}
-use Rattle.tape.specs.Numbers.{Bytes, byte-form, over-top, padded, below, read-groups, read-number}
+use Rattle.tape_number.specs.declared.fault.NumberFault.{NumberFault}
+use Rattle.tape_number.specs.declared.fault.NumberFault.the-variants.{Cut, Form}
+use Rattle.tape.specs.Faults.{shifted}
+use Rattle.tape_number.specs.Numbers.{Bytes, byte-form, over-top, padded, below, read-groups, read-number, number-place}
 use Rattle.tape.specs.Spots.{Spot, past, number-at, number-from, wrapped, and-then, field}
 use Rattle.tape.specs.Written.{Is-word}
-use Rattle.tape.proofs.Forms.{only-form}
+use Rattle.tape_number.proofs.Forms.{only-form}
 
 -- A place among the bytes from a spot on, or right behind them.
 pub record Inside (here : Spot) (p : ℕ) : Type 0 where
@@ -125,8 +125,8 @@ pub field-judged : {X E : Type 0} (R : X → List ℕ → Type 0) (place : E →
 field-judged R place wrap w here next f k =
     then-judged Number-read R place here (wrapped wrap (number-at here)) next f (wrapped-judged place wrap w here (number-at here) (number-judged here f))
     (λ n after form s g t.
-        let u : Took here (byte-form n) after = subst (λ bs. Took here bs after) (s .1) t in
-        subst (λ bs. Judged (λ x more. R x (bs ++ more)) place here after (next n after)) (sym (s .1)) (k n after (s .0) g u))
+    let u : Took here (byte-form n) after = subst (λ bs. Took here bs after) (s .1) t in
+    subst (λ bs. Judged (λ x more. R x (bs ++ more)) place here after (next n after)) (sym (s .1)) (k n after (s .0) g u))
 
 -- Nothing more.
 pub done-judged : {X E : Type 0} (R : X → List ℕ → Type 0) (place : E → ℕ) (from here : Spot) (x : X) → R x [] → Judged {E = E} R place from here (Ok (x, here))

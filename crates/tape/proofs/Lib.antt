@@ -1,8 +1,6 @@
 pub mod Backs
 pub mod Codes
 pub mod Fills
-pub mod Forms
-pub mod Groups
 pub mod Judged
 pub mod Parts
 pub mod Readings

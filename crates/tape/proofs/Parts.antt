@@ -12,7 +12,7 @@ use Rattle.std.specs.declared.option.Option.{Option}
 use Rattle.std.specs.declared.option.Option.the-variants.{Some, None}
 use Rattle.std.specs.declared.result.Result.{Result}
 use Rattle.std.specs.declared.result.Result.the-variants.{Ok, Err}
-use Rattle.tape.specs.declared.fault.NumberFault.{NumberFault}
+use Rattle.tape_number.specs.declared.fault.NumberFault.{NumberFault}
 use Rattle.tape.specs.declared.fault.HeadingFault.{HeadingFault}
 use Rattle.tape.specs.declared.fault.HeadingFault.the-variants as in-heading
 use Rattle.tape.specs.declared.fault.ItemFault.{ItemFault}
@@ -22,11 +22,11 @@ use Rattle.tape.specs.declared.kind.ItemKind.{ItemKind}
 use Rattle.tape.specs.declared.kind.ItemKind.the-variants as kind
 use Rattle.tape.specs.declared.kind.ManagerKind.{ManagerKind}
 use Rattle.tape.specs.declared.kind.StoreKind.{StoreKind}
-use Rattle.tape.specs.Faults.{number-place, item-place, heading-place}
+use Rattle.tape.specs.Faults.{item-place, heading-place}
 use Rattle.tape.specs.Headings.{known, kind-at, fits-store, words-at, heading-at}
 use Rattle.tape.specs.Items.{Said, start, read, write, seal, put, quit, look, remark, printable, printable-front, remark-length, remark-of, remark-at, fields-at, coded, item-from, item-at}
 use Rattle.tape.specs.Kinds.{with-number, item-code, item-kinds, item-kind-of, manager-number, managers, manager-of, store-number, stores, store-of}
-use Rattle.tape.specs.Numbers.{Bytes, byte-form}
+use Rattle.tape_number.specs.Numbers.{Bytes, byte-form, number-place}
 use Rattle.tape.specs.Spots.{Spot, past, field}
 use Rattle.tape.specs.Written.{Is-word, kind-of, fields-form, item-form, Sound-item, heading-form, Sound-heading}
 use Rattle.tape.proofs.Judged.{Inside, inside-behind, Took, Judged, judged-map, seen-from, behind, field-judged, then-judged, done-judged, bytes-behind}
@@ -47,25 +47,25 @@ one : (k : ItemKind) (make : ℕ → Said) → ((n : ℕ) → Is-word n → (Sou
 one k make g here f =
     field-judged (Fields-read k) item-place in-item.Number number-in-item here _ f
     (λ n after w b t. done-judged (λ x more. Fields-read k x (byte-form n ++ more)) item-place here after (make n)
-        (let h = g n w in (h .0, h .1, append-nil (byte-form n) ∙ sym (h .2))))
+    (let h = g n w in (h .0, h .1, append-nil (byte-form n) ∙ sym (h .2))))
 
 read-judged : (here : Spot) → Bytes (here .bytes) → Judged (Fields-read kind.Read) item-place here here (fields-at kind.Read here)
 read-judged here f =
     field-judged (Fields-read kind.Read) item-place in-item.Number number-in-item here _ f
     (λ j s w g t. seen-from (λ x more. Fields-read kind.Read x (byte-form j ++ more)) item-place _ t
-        (field-judged (λ x more. Fields-read kind.Read x (byte-form j ++ more)) item-place in-item.Number number-in-item s _ g
-        (λ a after v h u. done-judged (λ x more. Fields-read kind.Read x (byte-form j ++ (byte-form a ++ more))) item-place s after (read j a)
-            ((w, v), refl, ap (λ bs. byte-form j ++ bs) (append-nil (byte-form a))))))
+    (field-judged (λ x more. Fields-read kind.Read x (byte-form j ++ more)) item-place in-item.Number number-in-item s _ g
+    (λ a after v h u. done-judged (λ x more. Fields-read kind.Read x (byte-form j ++ (byte-form a ++ more))) item-place s after (read j a)
+    ((w, v), refl, ap (λ bs. byte-form j ++ bs) (append-nil (byte-form a))))))
 
 write-judged : (here : Spot) → Bytes (here .bytes) → Judged (Fields-read kind.Write) item-place here here (fields-at kind.Write here)
 write-judged here f =
     field-judged (Fields-read kind.Write) item-place in-item.Number number-in-item here _ f
     (λ j s w g t. seen-from (λ x more. Fields-read kind.Write x (byte-form j ++ more)) item-place _ t
-        (field-judged (λ x more. Fields-read kind.Write x (byte-form j ++ more)) item-place in-item.Number number-in-item s _ g
-        (λ a s′ v h u. seen-from (λ x more. Fields-read kind.Write x (byte-form j ++ (byte-form a ++ more))) item-place _ u
-            (field-judged (λ x more. Fields-read kind.Write x (byte-form j ++ (byte-form a ++ more))) item-place in-item.Number number-in-item s′ _ h
-            (λ y after z i o. done-judged (λ x more. Fields-read kind.Write x (byte-form j ++ (byte-form a ++ (byte-form y ++ more)))) item-place s′ after (write j a y)
-                ((w, v, z), refl, ap (λ bs. byte-form j ++ (byte-form a ++ bs)) (append-nil (byte-form y))))))))
+    (field-judged (λ x more. Fields-read kind.Write x (byte-form j ++ more)) item-place in-item.Number number-in-item s _ g
+    (λ a s′ v h u. seen-from (λ x more. Fields-read kind.Write x (byte-form j ++ (byte-form a ++ more))) item-place _ u
+    (field-judged (λ x more. Fields-read kind.Write x (byte-form j ++ (byte-form a ++ more))) item-place in-item.Number number-in-item s′ _ h
+    (λ y after z i o. done-judged (λ x more. Fields-read kind.Write x (byte-form j ++ (byte-form a ++ (byte-form y ++ more)))) item-place s′ after (write j a y)
+    ((w, v, z), refl, ap (λ bs. byte-form j ++ (byte-form a ++ bs)) (append-nil (byte-form y))))))))
 
 -- A place some bytes behind a spot that stands behind the spot `from`.
 within : {from here : Spot} {form : List ℕ} (n : ℕ) → Took from form here → n ≤ length (here .bytes) → Inside from (here .place + n)
@@ -83,11 +83,11 @@ front-le (b ∷ bytes) = front-step (printable b) (printable-front bytes) (lengt
 remark-by : {from : Spot} {form : List ℕ} (count : ℕ) (here : Spot) → Took from form here → form ≡ byte-form count → (good short bad : Bool)
     → remark-length count ≡ good → ltb (length (here .bytes)) count ≡ short → ltb (printable-front (take count (here .bytes))) count ≡ bad
     → Judged (λ x more. Fields-read kind.Remark x (form ++ more)) item-place from here
-        (cond good
-        (cond short (Err (in-item.Cut (here .place + length (here .bytes))))
-        (cond bad (Err (in-item.Byte (here .place + printable-front (take count (here .bytes)))))
-        (Ok (remark (take count (here .bytes)), past count here))))
-        (Err (in-item.Length (from .place))))
+    (cond good
+    (cond short (Err (in-item.Cut (here .place + length (here .bytes))))
+    (cond bad (Err (in-item.Byte (here .place + printable-front (take count (here .bytes)))))
+    (Ok (remark (take count (here .bytes)), past count here))))
+    (Err (in-item.Length (from .place))))
 remark-by {from} count here t e false short bad a b c = here-inside from
 remark-by count here t e true true bad a b c = within (length (here .bytes)) t (omega arith)
 remark-by count here t e true false true a b c =
@@ -97,9 +97,11 @@ remark-by {from} {form} count here t e true false false a b c =
     let bytes = take count (here .bytes) in
     let n : length bytes ≡ count = length-take-le count (here .bytes) (ltb-false _ _ b) in
     let lo = ltb-false _ _ c in
-    let hi = front-le bytes in
-    (bytes, ((rw n a, omega arith), refl, ap (λ bs. bs ++ bytes) (e ∙ ap byte-form (sym n))),
-    record { split = sym (take-append-drop count (here .bytes)); moved = ap (λ k. here .place + k) (sym n) })
+    let hi = front-le bytes in (
+      bytes,
+      ((rw n a, omega arith), refl, ap (λ bs. bs ++ bytes) (e ∙ ap byte-form (sym n))),
+      record { split = sym (take-append-drop count (here .bytes)); moved = ap (λ k. here .place + k) (sym n) },
+    )
 
 remark-judged : (here : Spot) → Bytes (here .bytes) → Judged (Fields-read kind.Remark) item-place here here (remark-at here)
 unfolding remark-at
@@ -141,9 +143,9 @@ coded-judged here code rest e f (Some k) h =
     let t : Took here (code ∷ []) fields = record { split = e; moved = refl } in
     behind Item-read item-place (fields-at k fields) t
     (seen-from (λ x more. Item-read x (code ∷ more)) item-place (fields-at k fields) t
-        (judged-map (Fields-read k) (λ x more. Item-read x (code ∷ more)) item-place fields fields (fields-at k fields)
-        (λ x more r. (r .0, ap₂ (λ a b. a ∷ b) (sym c ∙ sym (ap item-code (r .1))) (r .2)))
-        (fields-judged k fields f)))
+    (judged-map (Fields-read k) (λ x more. Item-read x (code ∷ more)) item-place fields fields (fields-at k fields)
+    (λ x more r. (r .0, ap₂ (λ a b. a ∷ b) (sym c ∙ sym (ap item-code (r .1))) (r .2)))
+    (fields-judged k fields f)))
 
 item-from-judged : (here : Spot) (bytes : List ℕ) → here .bytes ≡ bytes → Bytes bytes → Judged Item-read item-place here here (item-from (here .place) bytes)
 item-from-judged here [] e f = here-inside here
@@ -198,14 +200,14 @@ pub heading-judged : (here : Spot) → Bytes (here .bytes) → Judged Heading-re
 heading-judged here f =
     then-judged (Kind-read manager-number) Heading-read heading-place here (kind-at manager-of here) _ f (kind-judged manager-number managers here f)
     (λ m s₁ fm em g₁ t₁. seen-from (λ h more. Heading-read h (fm ++ more)) heading-place _ t₁
-        (then-judged (Kind-read store-number) (λ h more. Heading-read h (fm ++ more)) heading-place s₁ (kind-at store-of s₁) _ g₁ (kind-judged store-number stores s₁ g₁)
-        (λ s s₂ fs es g₂ t₂. seen-from (λ h more. Heading-read h (fm ++ (fs ++ more))) heading-place _ t₂
-            (then-judged (Words-read s) (λ h more. Heading-read h (fm ++ (fs ++ more))) heading-place s₂ (words-at s s₂) _ g₂ (words-judged s s₂ g₂)
-            (λ w s₃ fw ew g₃ t₃. seen-from (λ h more. Heading-read h (fm ++ (fs ++ (fw ++ more)))) heading-place _ t₃
-                (field-judged (λ h more. Heading-read h (fm ++ (fs ++ (fw ++ more)))) heading-place in-heading.Number number-in-heading s₃ _ g₃
-                (λ c s₄ lc g₄ t₄. seen-from (λ h more. Heading-read h (fm ++ (fs ++ (fw ++ (byte-form c ++ more))))) heading-place _ t₄
-                    (field-judged (λ h more. Heading-read h (fm ++ (fs ++ (fw ++ (byte-form c ++ more))))) heading-place in-heading.Number number-in-heading s₄ _ g₄
-                    (λ r s₅ lr g₅ t₅.
-                        let h : Heading = record { manager = m; store = s; words = w; commit = c; rank = r } in
-                        done-judged (λ h more. Heading-read h (fm ++ (fs ++ (fw ++ (byte-form c ++ (byte-form r ++ more)))))) heading-place s₄ s₅ h
-                        ((ew .0, lc, lr), heading-judged-form h fm fs fw em es (ew .1)))))))))))
+    (then-judged (Kind-read store-number) (λ h more. Heading-read h (fm ++ more)) heading-place s₁ (kind-at store-of s₁) _ g₁ (kind-judged store-number stores s₁ g₁)
+    (λ s s₂ fs es g₂ t₂. seen-from (λ h more. Heading-read h (fm ++ (fs ++ more))) heading-place _ t₂
+    (then-judged (Words-read s) (λ h more. Heading-read h (fm ++ (fs ++ more))) heading-place s₂ (words-at s s₂) _ g₂ (words-judged s s₂ g₂)
+    (λ w s₃ fw ew g₃ t₃. seen-from (λ h more. Heading-read h (fm ++ (fs ++ (fw ++ more)))) heading-place _ t₃
+    (field-judged (λ h more. Heading-read h (fm ++ (fs ++ (fw ++ more)))) heading-place in-heading.Number number-in-heading s₃ _ g₃
+    (λ c s₄ lc g₄ t₄. seen-from (λ h more. Heading-read h (fm ++ (fs ++ (fw ++ (byte-form c ++ more))))) heading-place _ t₄
+    (field-judged (λ h more. Heading-read h (fm ++ (fs ++ (fw ++ (byte-form c ++ more))))) heading-place in-heading.Number number-in-heading s₄ _ g₄
+    (λ r s₅ lr g₅ t₅.
+    let h : Heading = record { manager = m; store = s; words = w; commit = c; rank = r } in
+    done-judged (λ h more. Heading-read h (fm ++ (fs ++ (fw ++ (byte-form c ++ (byte-form r ++ more)))))) heading-place s₄ s₅ h
+    ((ew .0, lc, lr), heading-judged-form h fm fs fw em es (ew .1)))))))))))

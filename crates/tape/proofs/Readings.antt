@@ -17,7 +17,7 @@ use Rattle.std.specs.declared.result.Result.the-variants.{Ok, Err}
 use Rattle.tape.specs.declared.fault.ItemFault.{ItemFault}
 use Rattle.tape.specs.Faults.{item-place}
 use Rattle.tape.specs.Items.{Said, item-at}
-use Rattle.tape.specs.Numbers.{Bytes}
+use Rattle.tape_number.specs.Numbers.{Bytes}
 use Rattle.tape.specs.Spots.{Spot}
 use Rattle.tape.specs.Tapes.{ItemsRead, at-end, after-item, items-within, items-at}
 use Rattle.tape.specs.Written.{item-form, Sound-items}
@@ -53,8 +53,8 @@ same-items (suc m) zero here f h g = cond-true _ _ _ (eq-eqb (length (here .byte
 same-items (suc m) (suc n) here f h g =
     ap (cond (eqb (length (here .bytes)) 0) at-end)
     (same-by (items-within m) (items-within n) (item-at here) (λ it after e.
-        let w = item-fewer here f it after e in
-        same-items m n after (w .1) (omega (arith, w .0)) (omega (arith, w .0))))
+    let w = item-fewer here f it after e in
+    same-items m n after (w .1) (omega (arith, w .0)) (omega (arith, w .0))))
 
 pub items-none : (here : Spot) → length (here .bytes) ≡ 0 → items-at here ≡ at-end
 unfolding items-at
@@ -68,8 +68,8 @@ items-more here f h =
     same-items l (suc l) here f (omega arith) (omega arith)
     ∙ cond-false _ _ _ (ne-eqb l 0 (λ z. omega arith))
     ∙ same-by (items-within l) items-at (item-at here) (λ it after e.
-        let w = item-fewer here f it after e in
-        same-items l (length (after .bytes)) after (w .1) (omega (arith, w .0)) (omega arith))
+    let w = item-fewer here f it after e in
+    same-items l (length (after .bytes)) after (w .1) (omega (arith, w .0)) (omega arith))
 
 -- What some items and a fault say of the bytes at a spot: the items' forms stand there, and behind them nothing, or what is at fault.
 abbrev pub Items-judged : Spot → ItemsRead → Type 0
@@ -94,11 +94,11 @@ within-judged (suc n) here f h =
     ⊎-elim
     (λ e. subst (λ (r : ItemsRead). Items-judged here r) (sym (cond-true _ _ _ (eq-eqb _ _ e))) (end-judged here e))
     (λ ne. subst (λ (r : ItemsRead). Items-judged here r) (sym (cond-false _ _ _ (ne-eqb _ _ ne)))
-        (after-judged (items-within n) here f (item-at here) (item-judged here f)
-        (λ it after t.
-            let l = took-fewer t in
-            let p = some-form it in
-            within-judged n after (took-bytes t f) (omega arith))))
+    (after-judged (items-within n) here f (item-at here) (item-judged here f)
+    (λ it after t.
+    let l = took-fewer t in
+    let p = some-form it in
+    within-judged n after (took-bytes t f) (omega arith))))
     (cases-eq (length (here .bytes)) 0)
 
 pub items-judged : (here : Spot) → Bytes (here .bytes) → Items-judged here (items-at here)

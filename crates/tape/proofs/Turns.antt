@@ -13,7 +13,7 @@ use Rattle.std.specs.declared.result.Result.the-variants.{Ok, Err}
 use Rattle.tape.specs.declared.cursor.Cursor.{Cursor}
 use Rattle.tape.specs.declared.fault.ItemFault.{ItemFault}
 use Rattle.tape.specs.Items.{Said, item-at}
-use Rattle.tape.specs.Numbers.{Bytes}
+use Rattle.tape_number.specs.Numbers.{Bytes}
 use Rattle.tape.specs.Spots.{Spot, spot}
 use Rattle.tape.specs.Tapes.{ItemsRead, at-end, after-item, items-at}
 use Rattle.tape.proofs.Readings.{item-fewer, items-more, items-none}
@@ -24,8 +24,8 @@ bytes-between n p tape f k =
     ⊎-elim
     (λ h. subst (λ x. x < 256) (sym (getD-take n (drop p tape) k 0 h ∙ getD-drop p tape k 0)) (f (p + k)))
     (λ h.
-        let l : length (take n (drop p tape)) ≤ k = omega (arith, length-take n (drop p tape)) in
-        subst (λ x. x < 256) (sym (getD-past (take n (drop p tape)) k 0 l)) (lit< tt))
+    let l : length (take n (drop p tape)) ≤ k = omega (arith, length-take n (drop p tape)) in
+    subst (λ x. x < 256) (sym (getD-past (take n (drop p tape)) k 0 l)) (lit< tt))
     (cases-lt k n)
 
 module _ (tape : List ℕ) (at : Cursor) (bytes : Bytes tape) (inside : at .end ≤ length tape) where
@@ -42,11 +42,11 @@ module _ (tape : List ℕ) (at : Cursor) (bytes : Bytes tape) (inside : at .end 
   turn-fault fault h e = turn-more h ∙ ap (after-item items-at) (sym e)
 
   pub turn-item : (it : Said) (after : Cursor) → at .place < at .end → after .end ≡ at .end → Ok (it, spot tape after) ≡ item-at (spot tape at)
-    → (after .end - after .place < at .end - at .place)
-    × (items-at (spot tape at) ≡ record { items = it ∷ items-at (spot tape after) .items; fault = items-at (spot tape after) .fault })
+      → (after .end - after .place < at .end - at .place)
+      × (items-at (spot tape at) ≡ record { items = it ∷ items-at (spot tape after) .items; fault = items-at (spot tape after) .fault })
   turn-item it after h e r =
-    let l = length-between tape (at .place) (at .end) inside in
-    let m = length-between tape (after .place) (after .end) (omega arith) in
-    let w = item-fewer (spot tape at) spot-bytes it (spot tape after) (sym r) in
-    let v = w .0 in
-    (omega arith, turn-more h ∙ ap (after-item items-at) (sym r))
+      let l = length-between tape (at .place) (at .end) inside in
+      let m = length-between tape (after .place) (after .end) (omega arith) in
+      let w = item-fewer (spot tape at) spot-bytes it (spot tape after) (sym r) in
+      let v = w .0 in
+      (omega arith, turn-more h ∙ ap (after-item items-at) (sym r))

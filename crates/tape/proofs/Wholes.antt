@@ -23,7 +23,7 @@ use Rattle.tape.specs.Faults.{most-bytes, item-place, heading-place, program-p
 use Rattle.tape.specs.Headings.{heading-at}
 use Rattle.tape.specs.Items.{Said}
 use Rattle.tape.specs.Laws.{whole, One-tape}
-use Rattle.tape.specs.Numbers.{Bytes}
+use Rattle.tape_number.specs.Numbers.{Bytes}
 use Rattle.tape.specs.Spots.{Spot}
 use Rattle.tape.specs.Tapes.{ItemsRead, items-at, Reading, unread, in-program, after-heading, tape-says}
 use Rattle.tape.specs.Written.{heading-form, item-form, Sound-heading, Sound-items, written}
@@ -45,7 +45,7 @@ data Way (tape : List ℕ) : Type 0 where
   too-long : most-bytes < length tape → tape-says tape ≡ unread program.TooLong → Way tape
   no-heading : (fault : HeadingFault) → Inside (at 0 tape) (heading-place fault) → tape-says tape ≡ unread (program.Heading fault) → Way tape
   headed : (h : Heading) (r : ItemsRead) (here : Spot) → length tape ≤ most-bytes → Sound-heading h → Took (at 0 tape) (heading-form h) here → Items-judged here r
-    → tape-says tape ≡ record { heading = Some h; items = r .items; fault = in-program (r .fault) } → Way tape
+      → tape-says tape ≡ record { heading = Some h; items = r .items; fault = in-program (r .fault) } → Way tape
 
 way-by : (tape : List ℕ) → Bytes tape → length tape ≤ most-bytes → (r : Result (Heading × Spot) HeadingFault) → Judged Heading-read heading-place (at 0 tape) (at 0 tape) r → tape-says tape ≡ after-heading r → Way tape
 way-by tape f le (Ok x) j e =
@@ -94,9 +94,12 @@ only-by tape h items e (headed h′ r here le s t j w) =
     let nf : r .fault ≡ None = no-fault (r .fault) (faults _ _ q) in
     let rest = j .1 .0 in
     let fr = front tape h′ (r .items) here rest t (j .1 .1) in
-    let nil : rest .bytes ≡ [] = nil-from-length (rest .bytes) (subst (λ o. Cases o (length (rest .bytes) ≡ 0) (λ fault. Inside rest (item-place fault))) nf (j .1 .2)) in
-    (fr .0 ∙ ap₂ (λ (a : List ℕ) b. a ++ b) (ap₂ written eh ei) nil ∙ append-nil (written h items),
-    subst Sound-heading eh s, subst Sound-items ei (j .0), le)
+    let nil : rest .bytes ≡ [] = nil-from-length (rest .bytes) (subst (λ o. Cases o (length (rest .bytes) ≡ 0) (λ fault. Inside rest (item-place fault))) nf (j .1 .2)) in (
+      fr .0 ∙ ap₂ (λ (a : List ℕ) b. a ++ b) (ap₂ written eh ei) nil ∙ append-nil (written h items),
+      subst Sound-heading eh s,
+      subst Sound-items ei (j .0),
+      le,
+    )
 
 inside-by : (tape : List ℕ) (fault : ProgramFault) → tape-says tape .fault ≡ Some fault → Way tape → program-place fault ≤ length tape
 inside-by tape fault e (too-long g w) =
@@ -133,18 +136,19 @@ before-by tape h fault eh ef (headed h′ r here le s t j w) =
     let form = written h′ (r .items) in
     let l : length tape ≡ length form + length (rest .bytes) = ap length (fr .0) ∙ length-append form (rest .bytes) in
     let p = fr .1 in
-    let lo = i .low in
-    (length form,
-    subst (λ (x : ProgramFault). length form ≤ program-place x) (sym (o .2)) (omega arith),
-    ap tape-says (ap (take (length form)) (fr .0) ∙ take-at form (rest .bytes) (length form) refl)
-    ∙ reads-back h′ (r .items) s (j .0) (omega arith)
-    ∙ ap₂ whole hh (sym (ap (λ (x : Reading). x .items) w)))
+    let lo = i .low in (
+      length form,
+      subst (λ (x : ProgramFault). length form ≤ program-place x) (sym (o .2)) (omega arith),
+      ap tape-says (ap (take (length form)) (fr .0) ∙ take-at form (rest .bytes) (length form) refl)
+          ∙ reads-back h′ (r .items) s (j .0) (omega arith)
+          ∙ ap₂ whole hh (sym (ap (λ (x : Reading). x .items) w)),
+    )
 
 pub one-tape : One-tape
 one-tape = record {
-    reads-back = reads-back;
-    only-form = λ tape h items f e. only-by tape h items e (way tape f);
-    fault-inside = λ tape fault f e. inside-by tape fault e (way tape f);
-    no-heading = λ tape f e. none-by tape e (way tape f);
-    before-fault = λ tape h fault f eh ef. before-by tape h fault eh ef (way tape f)
+  reads-back = reads-back;
+  only-form = λ tape h items f e. only-by tape h items e (way tape f);
+  fault-inside = λ tape fault f e. inside-by tape fault e (way tape f);
+  no-heading = λ tape f e. none-by tape e (way tape f);
+  before-fault = λ tape h fault f eh ef. before-by tape h fault eh ef (way tape f);
 }

@@ -1,7 +1,8 @@
 -- Under which number, and at which place, a fault of a tape is told.
 use Prim.Native.Nat.{ℕ, _+_}
-use Rattle.tape.specs.declared.fault.NumberFault.{NumberFault}
-use Rattle.tape.specs.declared.fault.NumberFault.the-variants as in-number
+use Rattle.tape_number.specs.declared.fault.NumberFault.{NumberFault}
+use Rattle.tape_number.specs.declared.fault.NumberFault.the-variants as in-number
+use Rattle.tape_number.specs.Numbers.{number-place}
 use Rattle.tape.specs.declared.fault.ItemFault.{ItemFault}
 use Rattle.tape.specs.declared.fault.ItemFault.the-variants as in-item
 use Rattle.tape.specs.declared.fault.HeadingFault.{HeadingFault}
@@ -27,10 +28,6 @@ most-bytes = 16384
 abbrev pub number-refusal : NumberFault → Refusal
 number-refusal (in-number.Cut place) = CutShort
 number-refusal (in-number.Form place) = BadNumber
-
-abbrev pub number-place : NumberFault → ℕ
-number-place (in-number.Cut place) = place
-number-place (in-number.Form place) = place
 
 -- A number's fault, where `before` bytes stand in front of the bytes that were read.
 abbrev pub shifted : ℕ → NumberFault → NumberFault

@@ -8,7 +8,7 @@ use Rattle.tape.specs.declared.fault.ProgramFault.{ProgramFault}
 use Rattle.tape.specs.declared.heading.Heading.{Heading}
 use Rattle.tape.specs.Faults.{most-bytes, program-place}
 use Rattle.tape.specs.Items.{Said}
-use Rattle.tape.specs.Numbers.{Bytes}
+use Rattle.tape_number.specs.Numbers.{Bytes}
 use Rattle.tape.specs.Tapes.{Reading, tape-says}
 use Rattle.tape.specs.Written.{written, Sound-heading, Sound-items}
 
@@ -28,4 +28,4 @@ pub record One-tape : Type 0 where
   pub no-heading : (tape : List ℕ) → Bytes tape → tape-says tape .heading ≡ None → (tape-says tape .items ≡ []) × ((fault : ProgramFault) × (tape-says tape .fault ≡ Some fault))
   -- The items before a fault are those of the same tape, cut before the fault.
   pub before-fault : (tape : List ℕ) (h : Heading) (fault : ProgramFault) → Bytes tape → tape-says tape .heading ≡ Some h → tape-says tape .fault ≡ Some fault
-    → (cut : ℕ) × (cut ≤ program-place fault) × (tape-says (take cut tape) ≡ whole h (tape-says tape .items))
+      → (cut : ℕ) × (cut ≤ program-place fault) × (tape-says (take cut tape) ≡ whole h (tape-says tape .items))

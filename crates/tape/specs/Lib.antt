@@ -4,8 +4,6 @@ pub mod Headings
 pub mod Items
 pub mod Kinds
 pub mod Laws
-pub mod Lines
-pub mod Numbers
 pub mod Spots
 pub mod Tapes
 pub mod Written

@@ -5,9 +5,9 @@ use lib.ListN.{take, drop}
 use Rattle.std.specs.declared.result.Result.{Result}
 use Rattle.std.specs.declared.result.Result.the-variants.{Ok, Err}
 use Rattle.tape.specs.declared.cursor.Cursor.{Cursor}
-use Rattle.tape.specs.declared.fault.NumberFault.{NumberFault}
+use Rattle.tape_number.specs.declared.fault.NumberFault.{NumberFault}
 use Rattle.tape.specs.Faults.{shifted}
-use Rattle.tape.specs.Numbers.{read-number}
+use Rattle.tape_number.specs.Numbers.{read-number}
 
 -- A spot on a tape: its place, counted in bytes from 0, and the bytes from there to the reader's end.
 pub record Spot : Type 0 where

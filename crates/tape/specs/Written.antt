@@ -11,7 +11,7 @@ use Rattle.tape.specs.declared.kind.ItemKind.the-variants as kind
 use Rattle.tape.specs.Headings.{fits-store}
 use Rattle.tape.specs.Items.{Said, start, read, write, seal, put, quit, look, remark, remark-length, printable-front}
 use Rattle.tape.specs.Kinds.{item-code, manager-number, store-number}
-use Rattle.tape.specs.Numbers.{byte-form}
+use Rattle.tape_number.specs.Numbers.{byte-form}
 
 -- A number that a tape can hold.
 abbrev pub Is-word : ℕ → Type 0

@@ -1,32 +1,9 @@
 // What can be wrong with a tape. Each fault keeps the place, counted in bytes from 0, at which it is told.
+use tape_number::fault::NumberFault;
 ghost use mathlib.Core.Path.{_≡_};
-ghost use Prim.Native.Nat.{ℕ, _+_, _<_, _^_};
 ghost use Rattle.tape.specs.declared.fault.ItemFault.the-variants.{Number as InItem};
 ghost use Rattle.tape.specs.declared.fault.HeadingFault.the-variants.{Number as InHeading};
 ghost use Rattle.tape.specs.declared.fault.ProgramFault.the-variants.{Item, Heading};
-ghost use Rattle.tape.specs.Faults.{number-place, shifted};
-
-// A fault in one number.
-#[derive(Clone, Copy)]
-pub enum NumberFault {
-    // The bytes end before the number does; the place is where they end.
-    Cut { place: usize },
-    // Over 32 bits, or not in the shortest form; the place is the number's first byte.
-    Form { place: usize },
-}
-
-impl NumberFault {
-    // The fault as it is told where `before` bytes stand in front.
-    pub(crate) fn shift(self, before: usize) -> NumberFault
-        requires { ⌜ before + number-place self < 2 ^ 64 ⌝ }
-        ensures { λ r. ⌜ r ≡ shifted before self ⌝ }
-    {
-        match self {
-            NumberFault::Cut { place } => NumberFault::Cut { place: before + place },
-            NumberFault::Form { place } => NumberFault::Form { place: before + place },
-        }
-    }
-}
 
 // A fault in one item.
 #[derive(Clone, Copy)]

@@ -8,7 +8,6 @@ use crate::kind::ManagerKind;
 use crate::kind::StoreByNumber;
 use crate::kind::StoreKind;
 use crate::reader::next_number;
-
 ghost use mathlib.Core.Path.{_≡_};
 ghost use Prim.Native.Nat.{ℕ, _≤_};
 ghost use lib.ListN.{length};
@@ -72,5 +71,11 @@ pub(crate) fn next_heading(tape: &[u8], at: &mut Cursor) -> Result<Heading, Head
     let words = next_words(store, tape, at)?;
     let commit = next_number(tape, at)?;
     let rank = next_number(tape, at)?;
-    Ok(Heading { manager, store, words, commit, rank })
+    Ok(Heading {
+        manager,
+        store,
+        words,
+        commit,
+        rank,
+    })
 }

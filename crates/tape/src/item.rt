@@ -6,7 +6,6 @@ use crate::kind::ItemKind;
 use crate::reader::bytes_left;
 use crate::reader::next_bytes;
 use crate::reader::next_number;
-
 ghost use mathlib.Core.Path.{_≡_};
 ghost use Prim.Native.Nat.{ℕ, _≤_, _<_};
 ghost use lib.ListN.{length};
@@ -57,7 +56,12 @@ fn count_printable(bytes: &[u8]) -> usize
 }
 
 // The remark of `len` bytes where the cursor stands, which then stands behind it; `place` is where the length stands.
-fn remark_of<'a>(place: usize, len: u32, tape: &'a [u8], at: &mut Cursor) -> Result<Item<'a>, ItemFault>
+fn remark_of<'a>(
+    place: usize,
+    len: u32,
+    tape: &'a [u8],
+    at: &mut Cursor,
+) -> Result<Item<'a>, ItemFault>
     requires { ⌜ now at .end ≤ length (now tape) ⌝ }
     ensures value { λ r. ⌜ told-item (now (tape .entry)) r (now (at .exit)) ≡ remark-of place len (spot (now (tape .entry)) (now (at .entry))) ⌝ }
     ensures end { λ _. ⌜ now (at .exit) .end ≡ now (at .entry) .end ⌝ }
@@ -68,12 +72,16 @@ fn remark_of<'a>(place: usize, len: u32, tape: &'a [u8], at: &mut Cursor) -> Res
     let len = len as usize;
     let left = bytes_left(tape, at);
     if left < len {
-        return Err(ItemFault::Cut { place: at.place + left });
+        return Err(ItemFault::Cut {
+            place: at.place + left,
+        });
     }
     let bytes = next_bytes(tape, at, len);
     let good = count_printable(bytes);
     if good < len {
-        return Err(ItemFault::Byte { place: at.place + good });
+        return Err(ItemFault::Byte {
+            place: at.place + good,
+        });
     }
     at.pass(len);
     Ok(Item::Remark(bytes))

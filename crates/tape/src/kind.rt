@@ -37,14 +37,14 @@ pub enum ItemKind {
 }
 
 // A kind that the heading names by a number.
-pub trait Kind: Sized {
+pub(crate) trait Kind: Sized {
     ghost numbered: { ℕ → Option Self };
 
     fn from_number(number: u32) -> Option<Self>
         ensures { λ r. ⌜ r ≡ numbered number ⌝ };
 }
 
-pub impl Kind for ManagerKind as ManagerByNumber {
+pub(crate) impl Kind for ManagerKind as ManagerByNumber {
     ghost numbered = { manager-of };
 
     fn from_number(number: u32) -> Option<ManagerKind> {
@@ -57,7 +57,7 @@ pub impl Kind for ManagerKind as ManagerByNumber {
     }
 }
 
-pub impl Kind for StoreKind as StoreByNumber {
+pub(crate) impl Kind for StoreKind as StoreByNumber {
     ghost numbered = { store-of };
 
     fn from_number(number: u32) -> Option<StoreKind> {
@@ -72,7 +72,7 @@ pub impl Kind for StoreKind as StoreByNumber {
 
 impl StoreKind {
     // The most words that a book in such a store has.
-    pub fn most_words(self) -> u32
+    pub(crate) fn most_words(self) -> u32
         ensures { λ r. ⌜ r ≡ most-words self ⌝ }
     {
         match self {
@@ -84,7 +84,7 @@ impl StoreKind {
 
 impl ItemKind {
     // The kind of item that begins with a code.
-    pub fn from_code(code: u8) -> Option<ItemKind>
+    pub(crate) fn from_code(code: u8) -> Option<ItemKind>
         ensures { λ r. ⌜ r ≡ item-kind-of code ⌝ }
     {
         match code {

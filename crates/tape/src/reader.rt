@@ -1,12 +1,13 @@
 // Reading bytes and numbers where a cursor stands.
 use crate::cursor::Cursor;
-use crate::fault::NumberFault;
-use crate::number::decode;
-
+use tape_number::fault::NumberFault;
+use tape_number::number::decode;
 ghost use mathlib.Core.Path.{_≡_};
 ghost use Prim.Native.Nat.{ℕ, _+_, _^_, _≤_, _<_};
 ghost use lib.ListN.{length, take};
 ghost use mathlib.Core.List.{List};
+ghost use Rattle.tape_number.specs.Numbers.{number-place};
+ghost use Rattle.tape.specs.Faults.{shifted};
 ghost use Rattle.tape.specs.Spots.{spot, past, told, number-at};
 
 impl Cursor {
@@ -17,6 +18,21 @@ impl Cursor {
         ensures end { λ _. ⌜ now (self .exit) .end ≡ now (self .entry) .end ⌝ }
     {
         self.place += count;
+    }
+}
+
+// A fault as it is told where `before` bytes stand in front of those that were read.
+fn shift(fault: NumberFault, before: usize) -> NumberFault
+    requires { ⌜ before + number-place fault < 2 ^ 64 ⌝ }
+    ensures { λ r. ⌜ r ≡ shifted before fault ⌝ }
+{
+    match fault {
+        NumberFault::Cut { place } => NumberFault::Cut {
+            place: before + place,
+        },
+        NumberFault::Form { place } => NumberFault::Form {
+            place: before + place,
+        },
     }
 }
 
@@ -49,6 +65,6 @@ pub(crate) fn next_number(tape: &[u8], at: &mut Cursor) -> Result<u32, NumberFau
             at.pass(taken);
             Ok(value)
         }
-        Err(fault) => Err(fault.shift(at.place)),
+        Err(fault) => Err(shift(fault, at.place)),
     }
 }

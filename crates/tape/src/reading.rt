@@ -10,7 +10,6 @@ use crate::item::next_item;
 use crate::refusal::MOST_BYTES;
 use std::alloc::AllocError;
 use std::alloc::Global;
-
 ghost use mathlib.Core.Path.{_≡_};
 ghost use mathlib.Core.List.{List, [], map, _++_};
 ghost use Prim.Native.Nat.{ℕ, _+_, _-_, _≤_};
@@ -44,7 +43,11 @@ fn is_too_long(bytes: &[u8]) -> bool
 }
 
 // Adds the items from the cursor on to `items`, which has room for them, up to the tape's end or the first fault.
-fn read_items<'a>(bytes: &'a [u8], at: &mut Cursor, items: &mut Vec<Item<'a>>) -> Result<(), ProgramFault>
+fn read_items<'a>(
+    bytes: &'a [u8],
+    at: &mut Cursor,
+    items: &mut Vec<Item<'a>>,
+) -> Result<(), ProgramFault>
     requires { ⌜ now at .end ≤ length (now bytes) ⌝ ∗ ⌜ vec-len (now items) + (now at .end - now at .place) ≤ vec-cap (now items) ⌝ }
     ensures items { λ _. ⌜ map said (vec-items (now (items .exit))) ≡ map said (vec-items (now (items .entry))) ++ items-at (spot (now (bytes .entry)) (now (at .entry))) .items ⌝ }
     ensures fault { λ r. ⌜ errPart r ≡ in-program (items-at (spot (now (bytes .entry)) (now (at .entry))) .fault) ⌝ }
@@ -67,17 +70,13 @@ impl<'a> Tape<'a> {
         if is_too_long(bytes) {
             return Err(ProgramFault::TooLong);
         }
-        let mut at = Cursor { place: 0, end: bytes.len() };
+        let mut at = Cursor {
+            place: 0,
+            end: bytes.len(),
+        };
         let heading = next_heading(bytes, &mut at)?;
         self.heading = Some(heading);
         read_items(bytes, &mut at, &mut self.items)
-    }
-
-    // How many items could be read.
-    pub(crate) fn count(&self) -> usize
-        ensures { λ r. ⌜ r ≡ length (reading (now (self .entry)) .items) ⌝ }
-    {
-        self.items.len()
     }
 
     // The number of the item at fault, 0 where it is the heading, or the whole tape.
@@ -98,7 +97,11 @@ pub fn read_tape<'a>(heap: Global, bytes: &'a [u8]) -> Result<Tape<'a>, AllocErr
 {
     let most = bytes.len().min(MOST_BYTES);
     let items = Vec::with_capacity(heap, most)?;
-    let mut tape = Tape { heading: None, items, fault: None };
+    let mut tape = Tape {
+        heading: None,
+        items,
+        fault: None,
+    };
     tape.fault = tape.fill(bytes).err();
     Ok(tape)
 }

@@ -1,11 +1,10 @@
 // Under which number, and at which place, a fault is told.
 use crate::fault::HeadingFault;
 use crate::fault::ItemFault;
-use crate::fault::NumberFault;
 use crate::fault::ProgramFault;
-
+use tape_number::fault::NumberFault;
 ghost use mathlib.Core.Path.{_≡_};
-ghost use Rattle.tape.specs.Faults.{refusal-number, number-refusal, number-place, item-refusal, item-place, heading-refusal, heading-place, program-refusal, program-place};
+ghost use Rattle.tape.specs.Faults.{refusal-number, number-refusal, item-refusal, item-place, heading-refusal, heading-place, program-refusal, program-place};
 
 // The most bytes that a tape may have.
 pub const MOST_BYTES: usize = 16_384;
@@ -30,38 +29,28 @@ impl Refusal {
     }
 }
 
-impl NumberFault {
-    pub fn refusal(self) -> Refusal
-        ensures { λ r. ⌜ r ≡ number-refusal self ⌝ }
-    {
-        match self {
-            NumberFault::Cut { .. } => Refusal::CutShort,
-            NumberFault::Form { .. } => Refusal::BadNumber,
-        }
-    }
-
-    pub fn place(self) -> usize
-        ensures { λ r. ⌜ r ≡ number-place self ⌝ }
-    {
-        match self {
-            NumberFault::Cut { place } | NumberFault::Form { place } => place,
-        }
+fn number_refusal(fault: NumberFault) -> Refusal
+    ensures { λ r. ⌜ r ≡ number-refusal fault ⌝ }
+{
+    match fault {
+        NumberFault::Cut { .. } => Refusal::CutShort,
+        NumberFault::Form { .. } => Refusal::BadNumber,
     }
 }
 
 impl ItemFault {
-    pub fn refusal(self) -> Refusal
+    fn refusal(self) -> Refusal
         ensures { λ r. ⌜ r ≡ item-refusal self ⌝ }
     {
         match self {
-            ItemFault::Number(fault) => fault.refusal(),
+            ItemFault::Number(fault) => number_refusal(fault),
             ItemFault::Cut { .. } => Refusal::CutShort,
             ItemFault::Code { .. } => Refusal::Unknown,
             ItemFault::Length { .. } | ItemFault::Byte { .. } => Refusal::BadRemark,
         }
     }
 
-    pub fn place(self) -> usize
+    fn place(self) -> usize
         ensures { λ r. ⌜ r ≡ item-place self ⌝ }
     {
         match self {
@@ -73,17 +62,17 @@ impl ItemFault {
 }
 
 impl HeadingFault {
-    pub fn refusal(self) -> Refusal
+    fn refusal(self) -> Refusal
         ensures { λ r. ⌜ r ≡ heading-refusal self ⌝ }
     {
         match self {
-            HeadingFault::Number(fault) => fault.refusal(),
+            HeadingFault::Number(fault) => number_refusal(fault),
             HeadingFault::Kind { .. } => Refusal::Unknown,
             HeadingFault::Words { .. } => Refusal::BadLength,
         }
     }
 
-    pub fn place(self) -> usize
+    fn place(self) -> usize
         ensures { λ r. ⌜ r ≡ heading-place self ⌝ }
     {
         match self {

@@ -1,7 +1,7 @@
 // Tapes, sound and damaged, with what is listed for each.
 #[cfg(test)]
 mod tests {
-    use tape::listing::list;
+    use listing::list;
     use std::test::*;
     use tape::reading::read_tape;
 
@@ -52,37 +52,109 @@ mod tests {
             listing: "heading: manager Greedy, store window, words 4080, commit count 4294967295, next rank 4294967295\nend 0\n",
         },
         // No words, in each store.
-        Case { tape: b"\x00\x00\x00\x00\x01", listing: "fault 7 2 0\n" },
-        Case { tape: b"\x00\x01\x00\x00\x01", listing: "fault 7 2 0\n" },
-        Case { tape: b"\x00\x02\x00\x00\x01", listing: "fault 7 2 0\n" },
+        Case {
+            tape: b"\x00\x00\x00\x00\x01",
+            listing: "fault 7 2 0\n",
+        },
+        Case {
+            tape: b"\x00\x01\x00\x00\x01",
+            listing: "fault 7 2 0\n",
+        },
+        Case {
+            tape: b"\x00\x02\x00\x00\x01",
+            listing: "fault 7 2 0\n",
+        },
         // Too many words: 4097, and in a window 4081 and 4096. What follows, missing or bad, is not looked at.
-        Case { tape: b"\x00\x00\x81\x20", listing: "fault 7 2 0\n" },
-        Case { tape: b"\x00\x01\x81\x20\x80\x00", listing: "fault 7 2 0\n" },
-        Case { tape: b"\x00\x02\xf1\x1f", listing: "fault 7 2 0\n" },
-        Case { tape: b"\x00\x02\x80\x20\x00\x01", listing: "fault 7 2 0\n" },
+        Case {
+            tape: b"\x00\x00\x81\x20",
+            listing: "fault 7 2 0\n",
+        },
+        Case {
+            tape: b"\x00\x01\x81\x20\x80\x00",
+            listing: "fault 7 2 0\n",
+        },
+        Case {
+            tape: b"\x00\x02\xf1\x1f",
+            listing: "fault 7 2 0\n",
+        },
+        Case {
+            tape: b"\x00\x02\x80\x20\x00\x01",
+            listing: "fault 7 2 0\n",
+        },
         // Unknown managers, 3 and 128. What follows, missing or bad, is not looked at.
-        Case { tape: b"\x03", listing: "fault 11 0 0\n" },
-        Case { tape: b"\x80\x01\x03\x00", listing: "fault 11 0 0\n" },
+        Case {
+            tape: b"\x03",
+            listing: "fault 11 0 0\n",
+        },
+        Case {
+            tape: b"\x80\x01\x03\x00",
+            listing: "fault 11 0 0\n",
+        },
         // Unknown stores, 3 and 129. What follows, missing or bad, is not looked at.
-        Case { tape: b"\x02\x03", listing: "fault 11 1 0\n" },
-        Case { tape: b"\x00\x81\x01\x00", listing: "fault 11 1 0\n" },
+        Case {
+            tape: b"\x02\x03",
+            listing: "fault 11 1 0\n",
+        },
+        Case {
+            tape: b"\x00\x81\x01\x00",
+            listing: "fault 11 1 0\n",
+        },
         // Headings cut before each of their numbers; the first is the empty tape.
-        Case { tape: b"", listing: "fault 9 0 0\n" },
-        Case { tape: b"\x02", listing: "fault 9 1 0\n" },
-        Case { tape: b"\x02\x02", listing: "fault 9 2 0\n" },
-        Case { tape: b"\x02\x02\xf0\x1f", listing: "fault 9 4 0\n" },
-        Case { tape: b"\x02\x02\xf0\x1f\x00", listing: "fault 9 5 0\n" },
+        Case {
+            tape: b"",
+            listing: "fault 9 0 0\n",
+        },
+        Case {
+            tape: b"\x02",
+            listing: "fault 9 1 0\n",
+        },
+        Case {
+            tape: b"\x02\x02",
+            listing: "fault 9 2 0\n",
+        },
+        Case {
+            tape: b"\x02\x02\xf0\x1f",
+            listing: "fault 9 4 0\n",
+        },
+        Case {
+            tape: b"\x02\x02\xf0\x1f\x00",
+            listing: "fault 9 5 0\n",
+        },
         // Headings cut within a number, after one to four of its bytes.
-        Case { tape: b"\x80", listing: "fault 9 1 0\n" },
-        Case { tape: b"\x00\x80\x80", listing: "fault 9 3 0\n" },
-        Case { tape: b"\x00\x00\xff\xff\xff", listing: "fault 9 5 0\n" },
-        Case { tape: b"\x00\x00\x01\xff\xff\xff\xff", listing: "fault 9 7 0\n" },
+        Case {
+            tape: b"\x80",
+            listing: "fault 9 1 0\n",
+        },
+        Case {
+            tape: b"\x00\x80\x80",
+            listing: "fault 9 3 0\n",
+        },
+        Case {
+            tape: b"\x00\x00\xff\xff\xff",
+            listing: "fault 9 5 0\n",
+        },
+        Case {
+            tape: b"\x00\x00\x01\xff\xff\xff\xff",
+            listing: "fault 9 7 0\n",
+        },
         // Headings with a number that is not in its shortest form; this is told before its value is judged.
-        Case { tape: b"\x83\x00", listing: "fault 10 0 0\n" },
-        Case { tape: b"\x00\x80\x00", listing: "fault 10 1 0\n" },
-        Case { tape: b"\x00\x00\x80\x80\x00", listing: "fault 10 2 0\n" },
+        Case {
+            tape: b"\x83\x00",
+            listing: "fault 10 0 0\n",
+        },
+        Case {
+            tape: b"\x00\x80\x00",
+            listing: "fault 10 1 0\n",
+        },
+        Case {
+            tape: b"\x00\x00\x80\x80\x00",
+            listing: "fault 10 2 0\n",
+        },
         // A heading with a number over 32 bits.
-        Case { tape: b"\x00\x00\x01\x00\xff\xff\xff\xff\x10", listing: "fault 10 4 0\n" },
+        Case {
+            tape: b"\x00\x00\x01\x00\xff\xff\xff\xff\x10",
+            listing: "fault 10 4 0\n",
+        },
         // Items with a number that is not in its shortest form.
         Case {
             tape: b"\x00\x00\x08\x00\x01\x01\x80\x00",

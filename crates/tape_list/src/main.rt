@@ -1,7 +1,7 @@
 // Lists the tape on standard input: its heading in words, a line for each item, and how it ends.
+use listing::list;
 use std::error::AnyError;
 use std::io::Read;
-use tape::listing::list;
 use tape::reading::read_tape;
 use tape::refusal::MOST_BYTES;
 

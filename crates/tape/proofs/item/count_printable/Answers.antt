@@ -6,8 +6,8 @@ use Rattle.tape.proofs.item.count_printable.Needs as need
 pub returns-then-not-is-printable : need.returns-then-not-is-printable
 returns-then-not-is-printable c =
     record {
-        value = sym (c .loop-i .inv ∙ front-stop (c .args .bytes .now) (c .loop-i .i) (c .loop-i-test .taken) (sym (c .if-not-is-printable .ensures tt)));
-        within = omega arith
+      value = sym (c .loop-i .inv ∙ front-stop (c .args .bytes .now) (c .loop-i .i) (c .loop-i-test .taken) (sym (c .if-not-is-printable .ensures tt)));
+      within = omega arith;
     }
 
 pub loop-i-again : need.loop-i-again

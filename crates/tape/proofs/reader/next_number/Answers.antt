@@ -9,8 +9,8 @@ returns-in-Ok c =
     let tape = c .args .tape .now in
     let here = spot tape (c .args .at .now) in
     record {
-        value = ap (λ s. Ok (c .in-Ok .value, s)) (c .pass .ensures .moved tape) ∙ ap (number-from here) (c .in-Ok .ensures tt .value);
-        end = c .pass .ensures .end
+      value = ap (λ s. Ok (c .in-Ok .value, s)) (c .pass .ensures .moved tape) ∙ ap (number-from here) (c .in-Ok .ensures tt .value);
+      end = c .pass .ensures .end;
     }
 
 pub returns-in-Err : need.returns-in-Err

@@ -10,7 +10,7 @@ use Rattle.std.proofs.shelf.Results.{err-from-errBy}
 use Rattle.std.specs.declared.result.Result.the-variants.{Err}
 use Rattle.tape.specs.declared.item.Item.{Item}
 use Rattle.tape.specs.Items.{Said, said}
-use Rattle.tape.specs.Numbers.{Bytes}
+use Rattle.tape_number.specs.Numbers.{Bytes}
 use Rattle.tape.specs.Tapes.{ItemsRead, in-program}
 use Rattle.tape.proofs.Turns.{items-ended, turn-fault, turn-item}
 use Rattle.tape.proofs.reading.read_items.Needs as need
@@ -22,8 +22,8 @@ returns-in-Break-item c =
     let e = turn-fault (c .args .bytes .now) (l .at) f (l .inv .0) (c .in-Break-item .field-0 .0) (c .loop-at-test .taken) (c .in-Break-item .ensures tt .value) in
     let p = err-from-errBy (c .from-residual .result) (c .from-residual .ensures .1) in
     record {
-        items = sym (l .inv .2 ∙ ap (λ (r : ItemsRead). map said (vec-items (l .items)) ++ r .items) e ∙ append-nil _);
-        fault = ap errPart (p .1 ∙ ap Err (p .2)) ∙ sym (ap in-program (l .inv .3 ∙ ap (λ (r : ItemsRead). r .fault) e))
+      items = sym (l .inv .2 ∙ ap (λ (r : ItemsRead). map said (vec-items (l .items)) ++ r .items) e ∙ append-nil _);
+      fault = ap errPart (p .1 ∙ ap Err (p .2)) ∙ sym (ap in-program (l .inv .3 ∙ ap (λ (r : ItemsRead). r .fault) e));
     }
 
 pub loop-at-less : need.loop-at-less
@@ -43,11 +43,13 @@ loop-at-again c =
     let s = turn-item (c .args .bytes .now) (l .at) f (l .inv .0) _ (c .next-item .last .at) (c .loop-at-test .taken) (c .in-Continue-item .ensures tt .end) (c .in-Continue-item .ensures tt .value) in
     let end = c .in-Continue-item .ensures tt .end in
     let len = c .push-reserved .ensures .len in
-    let cap = c .push-reserved .ensures .capacity in
-    (omega (arith, l .inv .0), omega (arith, s .0, l .inv .1),
-    l .inv .2 ∙ ap (λ (r : ItemsRead). map said (vec-items (l .items)) ++ r .items) (s .1)
-    ∙ one-more (vec-items (l .items)) (vec-items (c .push-reserved .last .self)) (c .in-Continue-item .item) _ (c .push-reserved .ensures .items),
-    l .inv .3 ∙ ap (λ (r : ItemsRead). r .fault) (s .1))
+    let cap = c .push-reserved .ensures .capacity in (
+      omega (arith, l .inv .0),
+      omega (arith, s .0, l .inv .1),
+      l .inv .2 ∙ ap (λ (r : ItemsRead). map said (vec-items (l .items)) ++ r .items) (s .1)
+          ∙ one-more (vec-items (l .items)) (vec-items (c .push-reserved .last .self)) (c .in-Continue-item .item) _ (c .push-reserved .ensures .items),
+      l .inv .3 ∙ ap (λ (r : ItemsRead). r .fault) (s .1),
+    )
 
 pub returns : need.returns
 returns c =
@@ -55,6 +57,6 @@ returns c =
     let f : Bytes (c .args .bytes .now) = λ k. let h = c .typed .bytes k in omega arith in
     let e = items-ended (c .args .bytes .now) (l .at) f (l .inv .0) (c .loop-at-test .left) in
     record {
-        items = sym (l .inv .2 ∙ ap (λ (r : ItemsRead). map said (vec-items (l .items)) ++ r .items) e ∙ append-nil _);
-        fault = sym (ap in-program (l .inv .3 ∙ ap (λ (r : ItemsRead). r .fault) e))
+      items = sym (l .inv .2 ∙ ap (λ (r : ItemsRead). map said (vec-items (l .items)) ++ r .items) e ∙ append-nil _);
+      fault = sym (ap in-program (l .inv .3 ∙ ap (λ (r : ItemsRead). r .fault) e));
     }

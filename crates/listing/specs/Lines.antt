@@ -1,0 +1,80 @@
+-- The lines that are listed of a tape, as bytes. Each ends with a line feed, byte 10.
+use Prim.Native.Nat.{ℕ, _+_}
+use mathlib.Core.Path.{_≡_}
+use mathlib.Core.List.{List, [], _∷_, _++_}
+use lib.Chars.{codes}
+use lib.ListN.{length}
+use lib.Utf8.{encodes}
+use Rattle.std.specs.Written.{decimal}
+use Rattle.std.specs.declared.option.Option.{Option}
+use Rattle.std.specs.declared.option.Option.the-variants.{Some, None}
+use Rattle.tape.specs.declared.fault.ProgramFault.{ProgramFault}
+use Rattle.tape.specs.declared.heading.Heading.{Heading}
+use Rattle.tape.specs.declared.kind.ManagerKind.{ManagerKind}
+use Rattle.tape.specs.declared.kind.ManagerKind.the-variants as manager
+use Rattle.tape.specs.declared.kind.StoreKind.{StoreKind}
+use Rattle.tape.specs.declared.kind.StoreKind.the-variants as store
+use Rattle.tape.specs.Faults.{refusal-number, program-refusal, program-place}
+use Rattle.tape.specs.Items.{Said, start, read, write, seal, put, quit, look, remark, printable-front}
+use Rattle.tape.specs.Tapes.{Reading, faulty-item}
+
+abbrev pub manager-name : ManagerKind → List ℕ
+manager-name manager.Timid = codes "Timid"
+manager-name manager.TwoPhase = codes "two-phase"
+manager-name manager.Greedy = codes "Greedy"
+
+abbrev pub store-name : StoreKind → List ℕ
+store-name store.Number = codes "number"
+store-name store.Byte = codes "byte"
+store-name store.Window = codes "window"
+
+-- The heading in words.
+abbrev pub heading-text : Heading → List ℕ
+heading-text h =
+    codes "manager " ++ (manager-name (h .manager) ++ (codes ", store " ++ (store-name (h .store)
+    ++ (codes ", words " ++ (decimal (h .words) ++ (codes ", commit count " ++ (decimal (h .commit) ++ (codes ", next rank " ++ decimal (h .rank)))))))))
+
+-- A remark as text, a character for each byte.
+abbrev pub remark-text : List ℕ → List ℕ
+remark-text bytes = encodes bytes
+
+-- What an item says: the call's name and its numbers, or the remark.
+abbrev pub item-text : Said → List ℕ
+item-text (start job) = codes "start " ++ decimal job
+item-text (read job word) = codes "read " ++ (decimal job ++ (codes " " ++ decimal word))
+item-text (write job word value) = codes "write " ++ (decimal job ++ (codes " " ++ (decimal word ++ (codes " " ++ decimal value))))
+item-text (seal job) = codes "seal " ++ decimal job
+item-text (put job) = codes "put " ++ decimal job
+item-text (quit job) = codes "quit " ++ decimal job
+item-text (look job) = codes "look " ++ decimal job
+item-text (remark bytes) = remark-text bytes
+
+-- An item's line.
+abbrev pub item-line : (number : ℕ) → Said → List ℕ
+item-line number it = ((decimal number ++ codes " ") ++ item-text it) ++ (10 ∷ [])
+
+-- The lines of some items, numbered on from `number`.
+abbrev pub item-lines : (number : ℕ) → List Said → List ℕ
+item-lines number [] = []
+item-lines number (it ∷ items) = item-line number it ++ item-lines (number + 1) items
+
+-- How a tape ends: with so many items, or with a fault.
+abbrev pub ending : Option ProgramFault → Reading → List ℕ
+ending None r = codes "end " ++ (decimal (length (r .items)) ++ (10 ∷ []))
+ending (Some fault) r =
+    codes "fault " ++ (decimal (refusal-number (program-refusal fault)) ++ (codes " " ++ (decimal (program-place fault) ++ (codes " " ++ (decimal (faulty-item r) ++ (10 ∷ []))))))
+
+abbrev pub last-line : Reading → List ℕ
+last-line r = ending (r .fault) r
+
+abbrev pub first-line : Option Heading → List ℕ
+first-line None = []
+first-line (Some h) = codes "heading: " ++ (heading-text h ++ (10 ∷ []))
+
+-- The listing of a tape, as far as it could be read.
+abbrev pub listing-text : Reading → List ℕ
+listing-text r = (first-line (r .heading) ++ item-lines 1 (r .items)) ++ last-line r
+
+-- A remark that a tape holds is listed as its very bytes.
+abbrev pub Remarks-stand : Type 0
+Remarks-stand = (bytes : List ℕ) → printable-front bytes ≡ length bytes → remark-text bytes ≡ bytes

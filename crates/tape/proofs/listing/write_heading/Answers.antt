@@ -1,9 +1,0 @@
-use mathlib.Core.Path.{_≡_, sym, ap, _∙_}
-use mathlib.Core.List.{_++_}
-use Rattle.std.specs.Of.String.{string-bytes}
-use Rattle.tape.specs.Lines.{first-line}
-use Rattle.tape.proofs.listing.write_heading.Needs as need
-
-pub returns-in-Continue-writeln : need.returns-in-Continue-writeln
-returns-in-Continue-writeln c =
-    c .in-Continue-writeln .ensures tt .bytes ∙ ap (λ h. string-bytes (c .args .text .now) ++ first-line h) (sym (c .in-Some .is))

@@ -1,7 +1,0 @@
-use mathlib.Core.Path.{refl}
-use Rattle.tape.specs.Numbers.{byte-form, read-number}
-use Rattle.tape.proofs.number.figures.Needs as need
-
-pub returns : need.returns
-unfolding byte-form read-number
-returns c = record { one-byte = refl; two-bytes = refl; greatest = refl; not-shortest = refl }

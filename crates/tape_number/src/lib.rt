@@ -1,0 +1,3 @@
+// Numbers, as a tape writes them.
+pub mod fault;
+pub mod number;
