@@ -18,11 +18,13 @@ use Rattle.tape.specs.Faults.{refusal-number, program-refusal, program-place}
 use Rattle.tape.specs.Items.{Said, start, read, write, seal, put, quit, look, remark, printable-front}
 use Rattle.tape.specs.Tapes.{Reading, faulty-item}
 
+-- How each manager is called.
 abbrev pub manager-name : ManagerKind → List ℕ
 manager-name manager.Timid = codes "Timid"
 manager-name manager.TwoPhase = codes "two-phase"
 manager-name manager.Greedy = codes "Greedy"
 
+-- How each store is called.
 abbrev pub store-name : StoreKind → List ℕ
 store-name store.Number = codes "number"
 store-name store.Byte = codes "byte"
@@ -64,9 +66,11 @@ ending None r = codes "end " ++ (decimal (length (r .items)) ++ (10 ∷ []))
 ending (Some fault) r =
     codes "fault " ++ (decimal (refusal-number (program-refusal fault)) ++ (codes " " ++ (decimal (program-place fault) ++ (codes " " ++ (decimal (faulty-item r) ++ (10 ∷ []))))))
 
+-- The last line of a listing.
 abbrev pub last-line : Reading → List ℕ
 last-line r = ending (r .fault) r
 
+-- The first line of a listing, where there is a heading.
 abbrev pub first-line : Option Heading → List ℕ
 first-line None = []
 first-line (Some h) = codes "heading: " ++ (heading-text h ++ (10 ∷ []))

@@ -14,7 +14,7 @@ use Rattle.tape.specs.Faults.{shifted}
 use Rattle.tape_number.specs.Numbers.{Bytes, byte-form, over-top, padded, below, read-groups, read-number, number-place}
 use Rattle.tape.specs.Spots.{Spot, past, number-at, number-from, wrapped, and-then, field}
 use Rattle.tape.specs.Written.{Is-word}
-use Rattle.tape_number.proofs.Forms.{only-form}
+use Rattle.tape_number.proofs.Forms.{begins-with-form}
 
 -- A place among the bytes from a spot on, or right behind them.
 pub record Inside (here : Spot) (p : ℕ) : Type 0 where
@@ -85,7 +85,7 @@ shifted-inside here (Form place) h = record { low = omega arith; high = omega ar
 
 number-by : (here : Spot) → Bytes (here .bytes) → (r : Result (ℕ × ℕ) NumberFault) → read-number (here .bytes) ≡ r → Judged Number-read number-place here here (number-from here r)
 number-by here f (Ok x) e =
-    let o = only-form (here .bytes) (x .0) (x .1) f e in
+    let o = begins-with-form (here .bytes) (x .0) (x .1) f e in
     (byte-form (x .0), (o .0, refl), record { split = o .2; moved = ap (λ k. here .place + k) (o .1) })
 number-by here f (Err fault) e = shifted-inside here fault (number-inside (here .bytes) fault e)
 

@@ -25,6 +25,7 @@ refusal-number BadRemark = 13
 abbrev pub most-bytes : ℕ
 most-bytes = 16384
 
+-- The refusal that a number's fault meets.
 abbrev pub number-refusal : NumberFault → Refusal
 number-refusal (in-number.Cut place) = CutShort
 number-refusal (in-number.Form place) = BadNumber
@@ -34,6 +35,7 @@ abbrev pub shifted : ℕ → NumberFault → NumberFault
 shifted before (in-number.Cut place) = in-number.Cut (before + place)
 shifted before (in-number.Form place) = in-number.Form (before + place)
 
+-- The refusal that an item's fault meets; a number's is told as it stands.
 abbrev pub item-refusal : ItemFault → Refusal
 item-refusal (in-item.Number fault) = number-refusal fault
 item-refusal (in-item.Cut place) = CutShort
@@ -41,6 +43,7 @@ item-refusal (in-item.Code place) = Unknown
 item-refusal (in-item.Length place) = BadRemark
 item-refusal (in-item.Byte place) = BadRemark
 
+-- The place that an item's fault names.
 abbrev pub item-place : ItemFault → ℕ
 item-place (in-item.Number fault) = number-place fault
 item-place (in-item.Cut place) = place
@@ -48,22 +51,25 @@ item-place (in-item.Code place) = place
 item-place (in-item.Length place) = place
 item-place (in-item.Byte place) = place
 
+-- The refusal that a heading's fault meets.
 abbrev pub heading-refusal : HeadingFault → Refusal
 heading-refusal (in-heading.Number fault) = number-refusal fault
 heading-refusal (in-heading.Kind place) = Unknown
 heading-refusal (in-heading.Words place) = BadLength
 
+-- The place that a heading's fault names.
 abbrev pub heading-place : HeadingFault → ℕ
 heading-place (in-heading.Number fault) = number-place fault
 heading-place (in-heading.Kind place) = place
 heading-place (in-heading.Words place) = place
 
+-- The refusal that ends a tape.
 abbrev pub program-refusal : ProgramFault → Refusal
 program-refusal in-program.TooLong = TooLong
 program-refusal (in-program.Heading fault) = heading-refusal fault
 program-refusal (in-program.Item fault) = item-refusal fault
 
--- A tape that is too long is told at the first byte that it should not have.
+-- The place that is told: for a tape that is too long, that of the first byte that it should not have.
 abbrev pub program-place : ProgramFault → ℕ
 program-place in-program.TooLong = most-bytes
 program-place (in-program.Heading fault) = heading-place fault

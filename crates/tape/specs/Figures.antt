@@ -15,6 +15,7 @@ abbrev pub refused : Result (ℕ × ℕ) NumberFault → Option ℕ
 refused (Ok x) = None
 refused (Err fault) = Some (refusal-number (number-refusal fault))
 
+-- The least and the greatest forms, and a form that is not the shortest.
 pub record Number-figures : Type 0 where
   pub one-byte : byte-form 127 ≡ 0x7F ∷ []
   pub two-bytes : byte-form 128 ≡ 0x80 ∷ 0x01 ∷ []

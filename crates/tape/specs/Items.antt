@@ -88,6 +88,7 @@ abbrev pub coded : ℕ → Option ItemKind → Spot → Result (Said × Spot) It
 coded place (Some kind) fields = fields-at kind fields
 coded place None fields = Err (Code place)
 
+-- The item that some bytes begin with, the first of them at `place`.
 abbrev pub item-from : ℕ → List ℕ → Result (Said × Spot) ItemFault
 item-from place [] = Err (Cut place)
 item-from place (code ∷ rest) = coded place (item-kind-of code) (record { place = place + 1; bytes = rest })

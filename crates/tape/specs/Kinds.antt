@@ -23,6 +23,7 @@ manager-number manager.Timid = 0
 manager-number manager.TwoPhase = 1
 manager-number manager.Greedy = 2
 
+-- All contention managers.
 abbrev pub managers : List ManagerKind
 managers = manager.Timid ∷ manager.TwoPhase ∷ manager.Greedy ∷ []
 
@@ -36,6 +37,7 @@ store-number store.Number = 0
 store-number store.Byte = 1
 store-number store.Window = 2
 
+-- All stores.
 abbrev pub stores : List StoreKind
 stores = store.Number ∷ store.Byte ∷ store.Window ∷ []
 
@@ -60,6 +62,7 @@ item-code item.Quit = 6
 item-code item.Look = 7
 item-code item.Remark = 8
 
+-- All kinds of items.
 abbrev pub item-kinds : List ItemKind
 item-kinds = item.Start ∷ item.Read ∷ item.Write ∷ item.Seal ∷ item.Put ∷ item.Quit ∷ item.Look ∷ item.Remark ∷ []
 

@@ -37,6 +37,7 @@ abbrev pub wrapped : {X E F : Type 0} → (E → F) → Result X E → Result X 
 wrapped wrap (Ok x) = Ok x
 wrapped wrap (Err fault) = Err (wrap fault)
 
+-- A number that was read at a spot, with the spot behind it; a fault is told at its place on the tape.
 abbrev pub number-from : Spot → Result (ℕ × ℕ) NumberFault → Result (ℕ × Spot) NumberFault
 number-from here (Ok x) = Ok (x .0, past (x .1) here)
 number-from here (Err fault) = Err (shifted (here .place) fault)

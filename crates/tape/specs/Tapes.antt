@@ -58,6 +58,7 @@ abbrev pub in-program : Option ItemFault → Option ProgramFault
 in-program None = None
 in-program (Some fault) = Some (program.Item fault)
 
+-- The heading and the items behind it; without a heading nothing is read.
 abbrev pub after-heading : Result (Heading × Spot) HeadingFault → Reading
 after-heading (Ok x) = record { heading = Some (x .0); items = items-at (x .1) .items; fault = in-program (items-at (x .1) .fault) }
 after-heading (Err fault) = unread (program.Heading fault)
@@ -66,11 +67,12 @@ after-heading (Err fault) = unread (program.Heading fault)
 unfoldable pub tape-says : List ℕ → Reading
 tape-says tape = cond (ltb most-bytes (length tape)) (unread program.TooLong) (after-heading (heading-at (record { place = 0; bytes = tape })))
 
--- The number of the item at fault: 0 in the heading, else one more than the items before it.
+-- The number of the item behind some others: 0 for the heading itself, else one more than the items.
 abbrev pub item-after : Option Heading → List Said → ℕ
 item-after None items = 0
 item-after (Some heading) items = length items + 1
 
+-- The number of the item at fault.
 abbrev pub faulty-item : Reading → ℕ
 faulty-item r = item-after (r .heading) (r .items)
 
@@ -78,5 +80,6 @@ faulty-item r = item-after (r .heading) (r .items)
 abbrev pub stopped : Tape → Option ProgramFault → Reading
 stopped tape fault = record { heading = tape .heading; items = map said (vec-items (tape .items)); fault = fault }
 
+-- What a tape of the code says.
 abbrev pub reading : Tape → Reading
 reading tape = stopped tape (tape .fault)

@@ -26,13 +26,10 @@ fn shift(fault: NumberFault, before: usize) -> NumberFault
     requires { ⌜ before + number-place fault < 2 ^ 64 ⌝ }
     ensures { λ r. ⌜ r ≡ shifted before fault ⌝ }
 {
+    let place = before + fault.place();
     match fault {
-        NumberFault::Cut { place } => NumberFault::Cut {
-            place: before + place,
-        },
-        NumberFault::Form { place } => NumberFault::Form {
-            place: before + place,
-        },
+        NumberFault::Cut { .. } => NumberFault::Cut { place },
+        NumberFault::Form { .. } => NumberFault::Form { place },
     }
 }
 

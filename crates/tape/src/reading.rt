@@ -45,15 +45,15 @@ fn is_too_long(bytes: &[u8]) -> bool
 // Adds the items from the cursor on to `items`, which has room for them, up to the tape's end or the first fault.
 fn read_items<'a>(
     bytes: &'a [u8],
-    at: &mut Cursor,
+    mut at: Cursor,
     items: &mut Vec<Item<'a>>,
 ) -> Result<(), ProgramFault>
-    requires { ⌜ now at .end ≤ length (now bytes) ⌝ ∗ ⌜ vec-len (now items) + (now at .end - now at .place) ≤ vec-cap (now items) ⌝ }
-    ensures items { λ _. ⌜ map said (vec-items (now (items .exit))) ≡ map said (vec-items (now (items .entry))) ++ items-at (spot (now (bytes .entry)) (now (at .entry))) .items ⌝ }
-    ensures fault { λ r. ⌜ errPart r ≡ in-program (items-at (spot (now (bytes .entry)) (now (at .entry))) .fault) ⌝ }
+    requires { ⌜ at .end ≤ length (now bytes) ⌝ ∗ ⌜ vec-len (now items) + (at .end - at .place) ≤ vec-cap (now items) ⌝ }
+    ensures items { λ _. ⌜ map said (vec-items (now (items .exit))) ≡ map said (vec-items (now (items .entry))) ++ items-at (spot (now (bytes .entry)) at) .items ⌝ }
+    ensures fault { λ r. ⌜ errPart r ≡ in-program (items-at (spot (now (bytes .entry)) at) .fault) ⌝ }
 {
     while at.place < at.end {
-        let item = next_item(bytes, at)?;
+        let item = next_item(bytes, &mut at)?;
         items.push_reserved(item);
     }
     Ok(())
@@ -76,7 +76,7 @@ impl<'a> Tape<'a> {
         };
         let heading = next_heading(bytes, &mut at)?;
         self.heading = Some(heading);
-        read_items(bytes, &mut at, &mut self.items)
+        read_items(bytes, at, &mut self.items)
     }
 
     // The number of the item at fault, 0 where it is the heading, or the whole tape.

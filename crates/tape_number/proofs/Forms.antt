@@ -6,9 +6,10 @@ use native.Mathlib.Nat.{add-comm}
 use mathlib.Core.Path.{_≡_, refl, sym, ap, ap₂, _∙_}
 use mathlib.Core.Logic.{_⊎_, inl, inr, ⊎-elim}
 use mathlib.Core.Bool.{Bool, true, false, cond}
-use mathlib.Core.List.{List, [], _∷_, _++_}
+use mathlib.Core.List.{List, [], _∷_, _++_, append-nil}
 use lib.Dec.{lit<}
 use lib.ListN.{length, getD, drop}
+use Rattle.std.proofs.shelf.Lists.{drop-all, drop-at}
 use Rattle.std.proofs.shelf.Tests.{lt-ltb, le-ltb, cases-lt, cases-bool, ltb-true, ltb-false, eqb-true, and-parts}
 use Rattle.std.specs.declared.result.Result.{Result}
 use Rattle.std.specs.declared.result.Result.the-variants.{Ok, Err}
@@ -149,9 +150,9 @@ only : (l i : ℕ) (bytes : List ℕ) (n c : ℕ) → l + i ≡ 4 → Bytes byte
 only l i [] n c e f r = let z : _≡_ {A = ℕ} 0 1 = cc in absurd (omega arith)
 only l i (b ∷ bytes) n c e f r = only-by l i b bytes n c e (f 0) (λ l′ v e′ r′. only l′ (i + 1) bytes v c e′ (λ k. f (suc k)) r′) r (way i b bytes)
 
-pub only-form : (bytes : List ℕ) (n c : ℕ) → Bytes bytes → read-number bytes ≡ Ok (n, c) → (n < 2 ^ 32) × (c ≡ length (byte-form n)) × (bytes ≡ byte-form n ++ drop c bytes)
+pub begins-with-form : (bytes : List ℕ) (n c : ℕ) → Bytes bytes → read-number bytes ≡ Ok (n, c) → (n < 2 ^ 32) × (c ≡ length (byte-form n)) × (bytes ≡ byte-form n ++ drop c bytes)
 unfolding byte-form read-number
-only-form bytes n c f r =
+begins-with-form bytes n c f r =
     let h = only 4 0 bytes n c refl f r in
     let k : h .2 .0 ≡ c = omega (arith, h .2 .1) in
     (h .0, sym k ∙ h .2 .2, h .2 .3 ∙ ap (λ j. form-in 5 n ++ drop j bytes) k)
@@ -201,5 +202,16 @@ pub bad-stays : (bytes rest : List ℕ) (p : ℕ) → read-number bytes ≡ Err 
 unfolding read-number
 bad-stays bytes rest p e = bad-more 0 bytes rest p e
 
+only-form : (bytes : List ℕ) (n : ℕ) → Bytes bytes → read-number bytes ≡ Ok (n, length bytes) → bytes ≡ byte-form n
+only-form bytes n f r =
+    begins-with-form bytes n (length bytes) f r .2 ∙ ap (λ (bs : List ℕ). byte-form n ++ bs) (drop-all (length bytes) bytes (omega arith)) ∙ append-nil (byte-form n)
+
 pub one-form : One-form
-one-form = record { reads-back = reads-back; only-form = only-form; bad-stays = bad-stays; cut-front = cut-front }
+one-form =
+    record {
+      reads-back = λ n rest h. (reads-back n rest h, drop-at (byte-form n) rest (length (byte-form n)) refl);
+      begins-with-form = begins-with-form;
+      only-form = only-form;
+      bad-stays = bad-stays;
+      cut-front = cut-front;
+    }

@@ -55,11 +55,16 @@ Bytes bytes = (k : ℕ) → getD bytes k 0 < 256
 
 -- Every 32-bit number has exactly one byte form.
 pub record One-form : Type 0 where
-  -- The form, followed by anything, reads as the number, and just the form is taken.
-  pub reads-back : (number : ℕ) (rest : List ℕ) → number < 2 ^ 32 → read-number (byte-form number ++ rest) ≡ Ok (number, length (byte-form number))
-  -- Whatever bytes read as a number begin with that number's form; the rest is what follows it.
-  pub only-form : (bytes : List ℕ) (number taken : ℕ) → Bytes bytes → read-number bytes ≡ Ok (number, taken) → (number < 2 ^ 32) × (taken ≡ length (byte-form number)) × (bytes ≡ byte-form number ++ drop taken bytes)
+  -- The form, followed by anything, reads as the number, and leaves exactly what follows.
+  pub reads-back : (number : ℕ) (rest : List ℕ) → number < 2 ^ 32
+      → (read-number (byte-form number ++ rest) ≡ Ok (number, length (byte-form number))) × (drop (length (byte-form number)) (byte-form number ++ rest) ≡ rest)
+  -- Whatever bytes read as a number begin with that number's form; the bytes behind it are those that are not taken.
+  pub begins-with-form : (bytes : List ℕ) (number taken : ℕ) → Bytes bytes → read-number bytes ≡ Ok (number, taken)
+      → (number < 2 ^ 32) × (taken ≡ length (byte-form number)) × (bytes ≡ byte-form number ++ drop taken bytes)
+  -- So bytes that are taken whole as a number are the number's form: there is no other.
+  pub only-form : (bytes : List ℕ) (number : ℕ) → Bytes bytes → read-number bytes ≡ Ok (number, length bytes) → bytes ≡ byte-form number
   -- What is at fault by its form stays so, whatever follows.
   pub bad-stays : (bytes more : List ℕ) (place : ℕ) → read-number bytes ≡ Err (Form place) → read-number (bytes ++ more) ≡ Err (Form place)
   -- What is cut is the front of some number's form, which lacks at least a byte.
-  pub cut-front : (bytes : List ℕ) (place : ℕ) → Bytes bytes → read-number bytes ≡ Err (Cut place) → (place ≡ length bytes) × ((number next : ℕ) × (more : List ℕ) × (number < 2 ^ 32) × (bytes ++ (next ∷ more) ≡ byte-form number))
+  pub cut-front : (bytes : List ℕ) (place : ℕ) → Bytes bytes → read-number bytes ≡ Err (Cut place)
+      → (place ≡ length bytes) × ((number next : ℕ) × (more : List ℕ) × (number < 2 ^ 32) × (bytes ++ (next ∷ more) ≡ byte-form number))
