@@ -1,4 +1,4 @@
--- The lines that are listed of a tape, as bytes. Each ends with a line feed, byte 10.
+-- The lines that are listed of a tape, as bytes.
 use Prim.Native.Nat.{ℕ, _+_}
 use mathlib.Core.Path.{_≡_}
 use mathlib.Core.List.{List, [], _∷_, _++_}
@@ -14,9 +14,14 @@ use Rattle.tape.specs.declared.kind.ManagerKind.{ManagerKind}
 use Rattle.tape.specs.declared.kind.ManagerKind.the-variants as manager
 use Rattle.tape.specs.declared.kind.StoreKind.{StoreKind}
 use Rattle.tape.specs.declared.kind.StoreKind.the-variants as store
+use Rattle.tape_number.specs.Numbers.{Bytes}
 use Rattle.tape.specs.Faults.{refusal-number, program-refusal, program-place}
-use Rattle.tape.specs.Items.{Said, start, read, write, seal, put, quit, look, remark, printable-front}
-use Rattle.tape.specs.Tapes.{Reading, faulty-item}
+use Rattle.tape.specs.Items.{Said, start, read, write, seal, put, quit, look, remark}
+use Rattle.tape.specs.Tapes.{Reading, tape-says, faulty-item}
+
+-- What ends a line: a line feed.
+abbrev pub line-end : List ℕ
+line-end = 10 ∷ []
 
 -- How each manager is called.
 abbrev pub manager-name : ManagerKind → List ℕ
@@ -53,7 +58,7 @@ item-text (remark bytes) = remark-text bytes
 
 -- An item's line.
 abbrev pub item-line : (number : ℕ) → Said → List ℕ
-item-line number it = ((decimal number ++ codes " ") ++ item-text it) ++ (10 ∷ [])
+item-line number it = ((decimal number ++ codes " ") ++ item-text it) ++ line-end
 
 -- The lines of some items, numbered on from `number`.
 abbrev pub item-lines : (number : ℕ) → List Said → List ℕ
@@ -62,9 +67,9 @@ item-lines number (it ∷ items) = item-line number it ++ item-lines (number + 1
 
 -- How a tape ends: with so many items, or with a fault.
 abbrev pub ending : Option ProgramFault → Reading → List ℕ
-ending None r = codes "end " ++ (decimal (length (r .items)) ++ (10 ∷ []))
+ending None r = codes "end " ++ (decimal (length (r .items)) ++ line-end)
 ending (Some fault) r =
-    codes "fault " ++ (decimal (refusal-number (program-refusal fault)) ++ (codes " " ++ (decimal (program-place fault) ++ (codes " " ++ (decimal (faulty-item r) ++ (10 ∷ []))))))
+    codes "fault " ++ (decimal (refusal-number (program-refusal fault)) ++ (codes " " ++ (decimal (program-place fault) ++ (codes " " ++ (decimal (faulty-item r) ++ line-end)))))
 
 -- The last line of a listing.
 abbrev pub last-line : Reading → List ℕ
@@ -73,12 +78,28 @@ last-line r = ending (r .fault) r
 -- The first line of a listing, where there is a heading.
 abbrev pub first-line : Option Heading → List ℕ
 first-line None = []
-first-line (Some h) = codes "heading: " ++ (heading-text h ++ (10 ∷ []))
+first-line (Some h) = codes "heading: " ++ (heading-text h ++ line-end)
 
 -- The listing of a tape, as far as it could be read.
 abbrev pub listing-text : Reading → List ℕ
 listing-text r = (first-line (r .heading) ++ item-lines 1 (r .items)) ++ last-line r
 
--- A remark that a tape holds is listed as its very bytes.
+-- An item whose text, if it is a remark, is the remark's very bytes.
+abbrev pub Stands : Said → Type 0
+Stands (start job) = Unit {0}
+Stands (read job word) = Unit {0}
+Stands (write job word value) = Unit {0}
+Stands (seal job) = Unit {0}
+Stands (put job) = Unit {0}
+Stands (quit job) = Unit {0}
+Stands (look job) = Unit {0}
+Stands (remark bytes) = item-text (remark bytes) ≡ bytes
+
+-- The same of each of some items.
+abbrev pub All-stand : List Said → Type 0
+All-stand [] = Unit {0}
+All-stand (it ∷ items) = Stands it × All-stand items
+
+-- Every remark that is read of a tape is listed as its very bytes.
 abbrev pub Remarks-stand : Type 0
-Remarks-stand = (bytes : List ℕ) → printable-front bytes ≡ length bytes → remark-text bytes ≡ bytes
+Remarks-stand = (tape : List ℕ) → Bytes tape → All-stand (tape-says tape .items)

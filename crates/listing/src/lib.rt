@@ -7,16 +7,17 @@ use tape::item::Item;
 use tape::kind::ManagerKind;
 use tape::kind::StoreKind;
 use tape::reading::Tape;
+use tape::reading::read_tape;
 ghost use mathlib.Core.Path.{_≡_};
-ghost use mathlib.Core.List.{[], _++_, map};
+ghost use mathlib.Core.List.{_++_, map};
 ghost use Rattle.std.specs.Of.String.{string-bytes};
 ghost use Rattle.std.specs.Vec.{made};
 ghost use Rattle.std.specs.declared.option.Option.the-variants.{Some};
 ghost use Rattle.tape.specs.Items.{said};
-ghost use Rattle.tape.specs.Tapes.{reading};
+ghost use Rattle.tape.specs.Tapes.{reading, tape-says};
 ghost use Rattle.listing.specs.Lines.{manager-name, store-name, heading-text, first-line, remark-text, item-text, item-line, item-lines, last-line, listing-text, Remarks-stand};
 
-// Something of a tape, to be shown in words.
+// Something of a heading, in the words of a listing.
 #[derive(Clone, Copy)]
 pub struct InWords<T>(pub T);
 
@@ -62,6 +63,8 @@ pub impl fmt::Display for InWords<Heading> as HeadingInWords {
         )
     }
 }
+
+// The functions below add to `text`; where one finds no memory, what it leaves there is of no use.
 
 // Adds the heading's line to `text`, if there is a heading.
 fn write_heading(text: &mut String, heading: Option<Heading>) -> fmt::Result
@@ -140,8 +143,8 @@ fn write_end(text: &mut String, tape: &Tape) -> fmt::Result
     Ok(())
 }
 
-// The heading's line, the items' lines and the last line, one after the other.
-fn page(heap: Global, tape: &Tape) -> Result<String, fmt::Error>
+// The listing of a tape; without memory for it, an error.
+pub fn list(heap: Global, tape: &Tape) -> Result<String, fmt::Error>
     ensures { λ r. ⌜ made r (λ text. string-bytes text ≡ listing-text (reading (now (tape .entry)))) ⌝ }
 {
     let mut text = String::new(heap);
@@ -151,10 +154,20 @@ fn page(heap: Global, tape: &Tape) -> Result<String, fmt::Error>
     Ok(text)
 }
 
-// The listing of a tape; the one error is want of memory.
-pub fn list(heap: Global, tape: &Tape) -> Result<String, fmt::Error>
-    ensures text { λ r. ⌜ made r (λ text. string-bytes text ≡ listing-text (reading (now (tape .entry)))) ⌝ }
+// What is listed of the tape that some bytes are; without memory for it, an error.
+fn read_and_list(heap: Global, bytes: &[u8]) -> Result<String, fmt::Error>
+    ensures { λ r. ⌜ made r (λ text. string-bytes text ≡ listing-text (tape-says (now (bytes .entry)))) ⌝ }
+{
+    let Ok(tape) = read_tape(heap, bytes) else {
+        return Err(fmt::Error);
+    };
+    list(heap, &tape)
+}
+
+// The same, with the promise that each remark is listed as it stands on the tape.
+pub fn list_bytes(heap: Global, bytes: &[u8]) -> Result<String, fmt::Error>
+    ensures text { λ r. ⌜ made r (λ text. string-bytes text ≡ listing-text (tape-says (now (bytes .entry)))) ⌝ }
     ensures remarks { λ _. ⌜ Remarks-stand ⌝ }
 {
-    page(heap, tape)
+    read_and_list(heap, bytes)
 }

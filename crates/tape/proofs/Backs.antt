@@ -1,11 +1,11 @@
 -- What is written down is read back.
-use Prim.Native.Nat.{ℕ, suc, _+_, _<_, _≤_}
+use Prim.Native.Nat.{ℕ, _+_, _<_, _≤_}
 use native.Mathlib.Omega.{arith}
-use mathlib.Core.Path.{_≡_, refl, sym, ap, ap₂, subst, _∙_}
+use mathlib.Core.Path.{_≡_, refl, ap, _∙_}
 use mathlib.Core.Bool.{true, cond}
 use lib.Dec.{lit<}
-use mathlib.Core.List.{List, [], _∷_, _++_, append-assoc}
-use lib.ListN.{length, take, drop, length-append}
+use mathlib.Core.List.{List, _++_, append-assoc}
+use lib.ListN.{length, length-append}
 use Rattle.std.proofs.shelf.Lists.{drop-at, take-at}
 use Rattle.std.proofs.shelf.Tests.{le-ltb, cond-true}
 use Rattle.std.proofs.shelf.Ways.{tells}
@@ -26,21 +26,21 @@ use Rattle.tape.specs.declared.kind.StoreKind.the-variants as store
 use Rattle.tape.specs.Headings.{known, kind-at, fits-store, words-at, heading-at}
 use Rattle.tape.specs.Items.{Said, start, read, write, seal, put, quit, look, remark, remark-of, remark-at, remark-length, printable-front, fields-at, coded, item-at}
 use Rattle.tape.specs.Kinds.{item-code, item-kind-of, manager-number, manager-of, store-number, store-of}
-use Rattle.tape_number.specs.Numbers.{byte-form}
+use Rattle.tape_number.specs.Numbers.{byte-form, Is-u32}
 use Rattle.tape.specs.Spots.{Spot, number-at, number-from, wrapped, and-then, field}
-use Rattle.tape.specs.Written.{Is-word, kind-of, fields-form, item-form, Sound-item, heading-form, Sound-heading}
+use Rattle.tape.specs.Written.{kind-of, fields-form, item-form, Sound-item, heading-form, Sound-heading}
 use Rattle.tape_number.proofs.Forms.{reads-back}
 
 abbrev pub at : ℕ → List ℕ → Spot
 at place bytes = record { place = place; bytes = bytes }
 
-number-back : (p n : ℕ) (rest : List ℕ) → Is-word n → number-at (at p (byte-form n ++ rest)) ≡ Ok (n, at (p + length (byte-form n)) rest)
+number-back : (p n : ℕ) (rest : List ℕ) → Is-u32 n → number-at (at p (byte-form n ++ rest)) ≡ Ok (n, at (p + length (byte-form n)) rest)
 unfolding number-at
 number-back p n rest w =
     ap (number-from (at p (byte-form n ++ rest))) (reads-back n rest w)
     ∙ ap (λ bs. Ok (n, at (p + length (byte-form n)) bs)) (drop-at (byte-form n) rest (length (byte-form n)) refl)
 
-field-back : {X E : Type 0} (wrap : NumberFault → E) (next : ℕ → Spot → Result X E) (p n : ℕ) (rest : List ℕ) → Is-word n
+field-back : {X E : Type 0} (wrap : NumberFault → E) (next : ℕ → Spot → Result X E) (p n : ℕ) (rest : List ℕ) → Is-u32 n
     → field wrap (at p (byte-form n ++ rest)) next ≡ next n (at (p + length (byte-form n)) rest)
 field-back wrap next p n rest w = ap (λ r. and-then (wrapped wrap r) next) (number-back p n rest w)
 
@@ -48,7 +48,7 @@ field-back wrap next p n rest w = ap (λ r. and-then (wrapped wrap r) next) (num
 placed : {X E : Type 0} (x : X) (p q : ℕ) (rest : List ℕ) → p ≡ q → _≡_ {A = Result (X × Spot) E} (Ok (x, at p rest)) (Ok (x, at q rest))
 placed x p q rest e = ap (λ n. Ok (x, at n rest)) e
 
-short : (n : ℕ) → remark-length n ≡ true → Is-word n
+pub short : (n : ℕ) → remark-length n ≡ true → Is-u32 n
 short n e = grind (arith, tells)
 
 remark-back : (place p : ℕ) (bytes rest : List ℕ) → Sound-item (remark bytes) → remark-of place (length bytes) (at p (bytes ++ rest)) ≡ Ok (remark bytes, at (p + length bytes) rest)
@@ -105,23 +105,23 @@ item-back it p rest w =
     ∙ placed it _ _ rest (omega arith)
 
 -- A kind's number names the kind, and is a word.
-manager-known : (m : ManagerKind) → (manager-of (manager-number m) ≡ Some m) × Is-word (manager-number m)
+pub manager-known : (m : ManagerKind) → (manager-of (manager-number m) ≡ Some m) × Is-u32 (manager-number m)
 manager-known manager.Timid = (refl, lit< tt)
 manager-known manager.TwoPhase = (refl, lit< tt)
 manager-known manager.Greedy = (refl, lit< tt)
 
-store-known : (s : StoreKind) → (store-of (store-number s) ≡ Some s) × Is-word (store-number s)
+pub store-known : (s : StoreKind) → (store-of (store-number s) ≡ Some s) × Is-u32 (store-number s)
 store-known store.Number = (refl, lit< tt)
 store-known store.Byte = (refl, lit< tt)
 store-known store.Window = (refl, lit< tt)
 
-kind-back : {K : Type 0} (number : K → ℕ) (of : ℕ → Option K) (k : K) → (of (number k) ≡ Some k) × Is-word (number k) → (p : ℕ) (rest : List ℕ)
+kind-back : {K : Type 0} (number : K → ℕ) (of : ℕ → Option K) (k : K) → (of (number k) ≡ Some k) × Is-u32 (number k) → (p : ℕ) (rest : List ℕ)
     → kind-at of (at p (byte-form (number k) ++ rest)) ≡ Ok (k, at (p + length (byte-form (number k))) rest)
 kind-back number of k e p rest =
     field-back in-heading.Number (λ n after. known p after (of n)) p (number k) rest (e .1)
     ∙ ap (known p (at (p + length (byte-form (number k))) rest)) (e .0)
 
-fit-word : (s : StoreKind) (n : ℕ) → fits-store s n ≡ true → Is-word n
+pub fit-word : (s : StoreKind) (n : ℕ) → fits-store s n ≡ true → Is-u32 n
 fit-word store.Number n e = grind (arith, tells)
 fit-word store.Byte n e = grind (arith, tells)
 fit-word store.Window n e = grind (arith, tells)

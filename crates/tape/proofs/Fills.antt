@@ -1,19 +1,16 @@
 -- A blank tape, filled from bytes.
 use Prim.Native.Nat.{ℕ, _-_}
 use native.Mathlib.Omega.{arith}
-use mathlib.Core.Path.{_≡_, refl, sym, ap, ap₂, _∙_}
+use mathlib.Core.Path.{_≡_, sym, ap, ap₂, _∙_}
 use mathlib.Core.Bool.{true, false}
-use mathlib.Core.List.{List, [], _++_, map}
+use mathlib.Core.List.{List, [], map}
 use lib.Dec.{ltb}
 use lib.ListN.{length, take, drop}
 use Rattle.std.proofs.shelf.Lists.{take-all}
 use Rattle.std.proofs.shelf.Tests.{cond-true, cond-false}
 use Rattle.std.specs.Of.Vec.{vec-items}
 use Rattle.std.specs.declared.option.Option.{Option}
-use Rattle.std.specs.declared.option.Option.the-variants.{Some, None}
 use Rattle.std.specs.declared.result.Result.{Result}
-use Rattle.std.specs.declared.result.Result.the-variants.{Ok, Err}
-use Rattle.tape.specs.declared.cursor.Cursor.{Cursor}
 use Rattle.tape.specs.declared.fault.HeadingFault.{HeadingFault}
 use Rattle.tape.specs.declared.fault.ProgramFault.{ProgramFault}
 use Rattle.tape.specs.declared.fault.ProgramFault.the-variants as program
@@ -23,8 +20,8 @@ use Rattle.tape.specs.declared.reading.Tape.{Tape}
 use Rattle.tape.specs.Faults.{most-bytes}
 use Rattle.tape.specs.Headings.{heading-at}
 use Rattle.tape.specs.Items.{Said, said}
-use Rattle.tape.specs.Spots.{Spot, spot}
-use Rattle.tape.specs.Tapes.{Reading, unread, items-at, in-program, after-heading, tape-says, stopped}
+use Rattle.tape.specs.Spots.{Spot}
+use Rattle.tape.specs.Tapes.{unread, after-heading, tape-says, stopped}
 use Rattle.tape.proofs.Backs.{at}
 
 -- What a tape reads as, by its parts.

@@ -1,20 +1,18 @@
 -- What is known of an answer at a spot: what was read is the front of the bytes there, and a fault lies among them or right behind them.
-use Prim.Native.Nat.{ℕ, zero, suc, _+_, _<_, _≤_, _^_}
+use Prim.Native.Nat.{ℕ, _+_, _<_, _≤_}
 use native.Mathlib.Omega.{arith}
 use mathlib.Core.Path.{_≡_, refl, sym, ap, subst, _∙_}
-use mathlib.Core.Bool.{Bool, true, false, cond}
-use mathlib.Core.List.{List, [], _∷_, _++_, append-assoc, append-nil}
-use lib.ListN.{length, getD, drop, length-append}
+use mathlib.Core.List.{List, [], _++_, append-assoc}
+use lib.ListN.{length, getD, length-append}
 use Rattle.std.proofs.shelf.Lists.{getD-append-add}
 use Rattle.std.specs.declared.result.Result.{Result}
 use Rattle.std.specs.declared.result.Result.the-variants.{Ok, Err}
 use Rattle.tape_number.specs.declared.fault.NumberFault.{NumberFault}
 use Rattle.tape_number.specs.declared.fault.NumberFault.the-variants.{Cut, Form}
 use Rattle.tape.specs.Faults.{shifted}
-use Rattle.tape_number.specs.Numbers.{Bytes, byte-form, over-top, padded, below, read-groups, read-number, number-place}
-use Rattle.tape.specs.Spots.{Spot, past, number-at, number-from, wrapped, and-then, field}
-use Rattle.tape.specs.Written.{Is-word}
-use Rattle.tape_number.proofs.Forms.{begins-with-form}
+use Rattle.tape_number.specs.Numbers.{Bytes, byte-form, read-number, number-place, Is-u32}
+use Rattle.tape.specs.Spots.{Spot, number-at, number-from, wrapped, and-then, field}
+use Rattle.tape_number.proofs.Forms.{begins-with-form, number-inside}
 
 -- A place among the bytes from a spot on, or right behind them.
 pub record Inside (here : Spot) (p : ℕ) : Type 0 where
@@ -54,30 +52,9 @@ took-both {here} {mid} {after} {first} {second} t u =
     let l : length (first ++ second) ≡ length first + length second = length-append first second in
     record { split = t .split ∙ ap (λ bs. first ++ bs) (u .split) ∙ sym (append-assoc first second (after .bytes)); moved = omega arith }
 
-below-place : (d n : ℕ) (r : Result (ℕ × ℕ) NumberFault) (fault : NumberFault) → below d r ≡ Err fault → r ≡ Err fault
-below-place d n (Ok x) fault e = let z : _≡_ {A = ℕ} 0 1 = cc in absurd (omega arith)
-below-place d n (Err f) fault e = e
-
-step-place : (t q s : Bool) (b i d n : ℕ) (r : Result (ℕ × ℕ) NumberFault) (fault : NumberFault) → (r ≡ Err fault → number-place fault ≤ n)
-    → cond t (Err (Form 0)) (cond q (cond s (Err (Form 0)) (Ok (b, i))) (below d r)) ≡ Err fault → number-place fault ≤ n
-step-place true q s b i d n r fault f e = let z : Form 0 ≡ fault = cc in subst (λ (x : NumberFault). number-place x ≤ n) z (omega arith)
-step-place false true true b i d n r fault f e = let z : Form 0 ≡ fault = cc in subst (λ (x : NumberFault). number-place x ≤ n) z (omega arith)
-step-place false true false b i d n r fault f e = let z : _≡_ {A = ℕ} 0 1 = cc in absurd (omega arith)
-step-place false false s b i d n r fault f e = f (below-place d n r fault e)
-
-groups-place : (i : ℕ) (bytes : List ℕ) (fault : NumberFault) → read-groups i bytes ≡ Err fault → number-place fault ≤ i + length bytes
-groups-place i [] fault e = let z : Cut i ≡ fault = cc in subst (λ (x : NumberFault). number-place x ≤ i + 0) z (omega arith)
-groups-place i (b ∷ bytes) fault e =
-    step-place (over-top i b) _ (padded i b) b (i + 1) _ (i + suc (length bytes)) (read-groups (i + 1) bytes) fault
-    (λ h. let g = groups-place (i + 1) bytes fault h in omega arith) e
-
-pub number-inside : (bytes : List ℕ) (fault : NumberFault) → read-number bytes ≡ Err fault → number-place fault ≤ length bytes
-unfolding read-number
-number-inside bytes fault e = let h = groups-place 0 bytes fault e in omega arith
-
 -- A number that was read, and the bytes that it took.
 abbrev pub Number-read : ℕ → List ℕ → Type 0
-Number-read n form = Is-word n × (form ≡ byte-form n)
+Number-read n form = Is-u32 n × (form ≡ byte-form n)
 
 shifted-inside : (here : Spot) (fault : NumberFault) → number-place fault ≤ length (here .bytes) → Inside here (number-place (shifted (here .place) fault))
 shifted-inside here (Cut place) h = record { low = omega arith; high = omega arith }
@@ -120,7 +97,7 @@ wrapped-judged place wrap w here (Err fault) j = subst (λ p. Inside here p) (sy
 -- A number, then the rest of the part.
 pub field-judged : {X E : Type 0} (R : X → List ℕ → Type 0) (place : E → ℕ) (wrap : NumberFault → E) → ((fault : NumberFault) → place (wrap fault) ≡ number-place fault)
     → (here : Spot) (next : ℕ → Spot → Result (X × Spot) E) → Bytes (here .bytes)
-    → ((n : ℕ) (after : Spot) → Is-word n → Bytes (after .bytes) → Took here (byte-form n) after → Judged (λ x more. R x (byte-form n ++ more)) place here after (next n after))
+    → ((n : ℕ) (after : Spot) → Is-u32 n → Bytes (after .bytes) → Took here (byte-form n) after → Judged (λ x more. R x (byte-form n ++ more)) place here after (next n after))
     → Judged R place here here (field wrap here next)
 field-judged R place wrap w here next f k =
     then-judged Number-read R place here (wrapped wrap (number-at here)) next f (wrapped-judged place wrap w here (number-at here) (number-judged here f))

@@ -1,4 +1,5 @@
 pub mod Backs
+pub mod Bytes
 pub mod Codes
 pub mod Fills
 pub mod Judged

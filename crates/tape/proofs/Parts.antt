@@ -1,35 +1,31 @@
 -- The parts of a tape: what is read of a heading and of an item is the front of the bytes there.
-use Prim.Native.Nat.{ℕ, zero, suc, _+_, _<_, _≤_}
+use Prim.Native.Nat.{ℕ, suc, _+_, _≤_}
 use native.Mathlib.Omega.{arith}
-use mathlib.Core.Path.{_≡_, refl, sym, ap, ap₂, subst, _∙_}
+use mathlib.Core.Path.{_≡_, refl, sym, ap, ap₂, _∙_}
 use mathlib.Core.Bool.{Bool, true, false, cond}
 use mathlib.Core.List.{List, [], _∷_, _++_, append-nil}
 use lib.Dec.{eqb, ltb}
-use lib.ListN.{length, take, drop, length-take}
+use lib.ListN.{length, take, length-take}
 use Rattle.std.proofs.shelf.Lists.{take-append-drop, length-take-le}
 use Rattle.std.proofs.shelf.Tests.{ltb-false, eqb-true}
 use Rattle.std.specs.declared.option.Option.{Option}
 use Rattle.std.specs.declared.option.Option.the-variants.{Some, None}
-use Rattle.std.specs.declared.result.Result.{Result}
 use Rattle.std.specs.declared.result.Result.the-variants.{Ok, Err}
 use Rattle.tape_number.specs.declared.fault.NumberFault.{NumberFault}
-use Rattle.tape.specs.declared.fault.HeadingFault.{HeadingFault}
 use Rattle.tape.specs.declared.fault.HeadingFault.the-variants as in-heading
-use Rattle.tape.specs.declared.fault.ItemFault.{ItemFault}
 use Rattle.tape.specs.declared.fault.ItemFault.the-variants as in-item
 use Rattle.tape.specs.declared.heading.Heading.{Heading}
 use Rattle.tape.specs.declared.kind.ItemKind.{ItemKind}
 use Rattle.tape.specs.declared.kind.ItemKind.the-variants as kind
-use Rattle.tape.specs.declared.kind.ManagerKind.{ManagerKind}
 use Rattle.tape.specs.declared.kind.StoreKind.{StoreKind}
 use Rattle.tape.specs.Faults.{item-place, heading-place}
 use Rattle.tape.specs.Headings.{known, kind-at, fits-store, words-at, heading-at}
-use Rattle.tape.specs.Items.{Said, start, read, write, seal, put, quit, look, remark, printable, printable-front, remark-length, remark-of, remark-at, fields-at, coded, item-from, item-at}
+use Rattle.tape.specs.Items.{Said, start, read, write, seal, put, quit, look, remark, printable, printable-front, remark-length, remark-at, fields-at, coded, item-from, item-at}
 use Rattle.tape.specs.Kinds.{with-number, item-code, item-kinds, item-kind-of, manager-number, managers, manager-of, store-number, stores, store-of}
-use Rattle.tape_number.specs.Numbers.{Bytes, byte-form, number-place}
+use Rattle.tape_number.specs.Numbers.{Bytes, byte-form, number-place, Is-u32}
 use Rattle.tape.specs.Spots.{Spot, past, field}
-use Rattle.tape.specs.Written.{Is-word, kind-of, fields-form, item-form, Sound-item, heading-form, Sound-heading}
-use Rattle.tape.proofs.Judged.{Inside, inside-behind, Took, Judged, judged-map, seen-from, behind, field-judged, then-judged, done-judged, bytes-behind}
+use Rattle.tape.specs.Written.{kind-of, fields-form, item-form, Sound-item, heading-form, Sound-heading}
+use Rattle.tape.proofs.Judged.{Inside, inside-behind, Took, Judged, judged-map, seen-from, behind, field-judged, then-judged, done-judged}
 
 -- An item of a kind that was read, and the bytes of its fields.
 abbrev Fields-read : ItemKind → Said → List ℕ → Type 0
@@ -42,7 +38,7 @@ number-in-item : (fault : NumberFault) → item-place (in-item.Number fault) ≡
 number-in-item fault = refl
 
 -- An item of one number.
-one : (k : ItemKind) (make : ℕ → Said) → ((n : ℕ) → Is-word n → (Sound-item (make n) × (kind-of (make n) ≡ k) × (fields-form (make n) ≡ byte-form n)))
+one : (k : ItemKind) (make : ℕ → Said) → ((n : ℕ) → Is-u32 n → (Sound-item (make n) × (kind-of (make n) ≡ k) × (fields-form (make n) ≡ byte-form n)))
     → (here : Spot) → Bytes (here .bytes) → Judged (Fields-read k) item-place here here (field in-item.Number here (λ n s. Ok (make n, s)))
 one k make g here f =
     field-judged (Fields-read k) item-place in-item.Number number-in-item here _ f

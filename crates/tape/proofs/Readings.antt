@@ -2,16 +2,15 @@
 use Prim.Native.Nat.{ℕ, zero, suc, _+_, _<_, _≤_}
 use native.Mathlib.Omega.{arith}
 use mathlib.Core.Path.{_≡_, refl, sym, ap, subst, _∙_}
-use mathlib.Core.Bool.{Bool, true, false, cond}
-use mathlib.Core.Logic.{_⊎_, inl, inr, ⊎-elim}
-use mathlib.Core.List.{List, [], _∷_, _++_, append-assoc}
+use mathlib.Core.Bool.{cond}
+use mathlib.Core.Logic.{_⊎_, ⊎-elim}
+use mathlib.Core.List.{List, [], _∷_, _++_}
 use lib.Dec.{eqb}
 use lib.ListN.{length, length-append}
-use Rattle.std.proofs.shelf.Lists.{nil-from-length}
-use Rattle.std.proofs.shelf.Tests.{eq-eqb, ne-eqb, cond-true, cond-false, cases-eq, eqb-true}
+use Rattle.std.proofs.shelf.Tests.{eq-eqb, ne-eqb, cond-true, cond-false, cases-eq}
 use Rattle.std.specs.Joined.{joined}
 use Rattle.std.specs.Options.{Cases}
-use Rattle.std.specs.declared.option.Option.the-variants.{Some, None}
+use Rattle.std.specs.declared.option.Option.the-variants.{None}
 use Rattle.std.specs.declared.result.Result.{Result}
 use Rattle.std.specs.declared.result.Result.the-variants.{Ok, Err}
 use Rattle.tape.specs.declared.fault.ItemFault.{ItemFault}
@@ -22,7 +21,7 @@ use Rattle.tape.specs.Spots.{Spot}
 use Rattle.tape.specs.Tapes.{ItemsRead, at-end, after-item, items-within, items-at}
 use Rattle.tape.specs.Written.{item-form, Sound-items}
 use Rattle.tape.proofs.Backs.{at, item-back}
-use Rattle.tape.proofs.Judged.{Inside, inside-behind, Took, took-bytes, took-both, Judged}
+use Rattle.tape.proofs.Judged.{Inside, Took, took-bytes, took-both, Judged}
 use Rattle.tape.proofs.Parts.{Item-read, item-judged}
 
 pub some-form : (it : Said) → 0 < length (item-form it)

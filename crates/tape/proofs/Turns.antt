@@ -1,11 +1,11 @@
 -- One turn of the loop over the items.
 use Prim.Native.Nat.{ℕ, _+_, _-_, _<_, _≤_}
 use native.Mathlib.Omega.{arith}
-use mathlib.Core.Path.{_≡_, refl, sym, ap, subst, _∙_}
+use mathlib.Core.Path.{_≡_, sym, ap, subst, _∙_}
 use mathlib.Core.Logic.{⊎-elim}
 use mathlib.Core.List.{List, [], _∷_}
 use lib.Dec.{lit<}
-use lib.ListN.{length, getD, take, drop, length-take}
+use lib.ListN.{length, take, drop, length-take}
 use Rattle.std.proofs.shelf.Lists.{getD-take, getD-drop, getD-past}
 use Rattle.std.proofs.shelf.Tests.{cases-lt}
 use Rattle.std.specs.declared.option.Option.the-variants.{Some}
@@ -14,8 +14,8 @@ use Rattle.tape.specs.declared.cursor.Cursor.{Cursor}
 use Rattle.tape.specs.declared.fault.ItemFault.{ItemFault}
 use Rattle.tape.specs.Items.{Said, item-at}
 use Rattle.tape_number.specs.Numbers.{Bytes}
-use Rattle.tape.specs.Spots.{Spot, spot}
-use Rattle.tape.specs.Tapes.{ItemsRead, at-end, after-item, items-at}
+use Rattle.tape.specs.Spots.{spot}
+use Rattle.tape.specs.Tapes.{at-end, after-item, items-at}
 use Rattle.tape.proofs.Readings.{item-fewer, items-more, items-none}
 use Rattle.tape.proofs.Steps.{length-between}
 

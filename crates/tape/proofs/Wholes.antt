@@ -2,11 +2,10 @@
 use Prim.Native.Nat.{ℕ, _+_, _<_, _≤_}
 use native.Mathlib.Omega.{arith}
 use mathlib.Core.Path.{_≡_, refl, sym, ap, ap₂, subst, _∙_}
-use mathlib.Core.Bool.{cond}
 use mathlib.Core.Logic.{⊎-elim}
-use mathlib.Core.List.{List, [], _++_, append-assoc, append-nil}
+use mathlib.Core.List.{List, [], _++_, append-nil}
 use lib.ListN.{length, take, length-append}
-use Rattle.std.proofs.shelf.Lists.{nil-from-length, take-at}
+use Rattle.std.proofs.shelf.Lists.{nil-from-length, take-at, take-all, length-take-le}
 use Rattle.std.proofs.shelf.Tests.{lt-ltb, le-ltb, cases-lt, cond-true, cond-false}
 use Rattle.std.specs.Joined.{joined}
 use Rattle.std.specs.Options.{Cases}
@@ -28,6 +27,7 @@ use Rattle.tape.specs.Spots.{Spot}
 use Rattle.tape.specs.Tapes.{ItemsRead, items-at, Reading, unread, in-program, after-heading, tape-says}
 use Rattle.tape.specs.Written.{heading-form, item-form, Sound-heading, Sound-items, written}
 use Rattle.tape.proofs.Backs.{at, heading-back}
+use Rattle.tape.proofs.Bytes.{written-bytes}
 use Rattle.tape.proofs.Judged.{Inside, Took, took-bytes, took-both, Judged}
 use Rattle.tape.proofs.Parts.{Heading-read, heading-judged}
 use Rattle.tape.proofs.Readings.{Items-judged, items-judged, items-back}
@@ -84,7 +84,7 @@ faults a b e = ap (λ (r : Reading). r .fault) e
 never : {P : Type 0} → _≡_ {A = ℕ} 0 1 → P
 never z = absurd (omega arith)
 
-only-by : (tape : List ℕ) (h : Heading) (items : List Said) → tape-says tape ≡ whole h items → Way tape → (tape ≡ written h items) × Sound-heading h × Sound-items items × (length tape ≤ most-bytes)
+only-by : (tape : List ℕ) (h : Heading) (items : List Said) → tape-says tape ≡ whole h items → Way tape → (tape ≡ written h items) × Sound-heading h × (length tape ≤ most-bytes)
 only-by tape h items e (too-long g w) = let z = headings _ _ (sym w ∙ e) in never (cc)
 only-by tape h items e (no-heading fault g w) = let z = headings _ _ (sym w ∙ e) in never (cc)
 only-by tape h items e (headed h′ r here le s t j w) =
@@ -94,11 +94,30 @@ only-by tape h items e (headed h′ r here le s t j w) =
     let nf : r .fault ≡ None = no-fault (r .fault) (faults _ _ q) in
     let rest = j .1 .0 in
     let fr = front tape h′ (r .items) here rest t (j .1 .1) in
-    let nil : rest .bytes ≡ [] = nil-from-length (rest .bytes) (subst (λ o. Cases o (length (rest .bytes) ≡ 0) (λ fault. Inside rest (item-place fault))) nf (j .1 .2)) in (
-      fr .0 ∙ ap₂ (λ (a : List ℕ) b. a ++ b) (ap₂ written eh ei) nil ∙ append-nil (written h items),
-      subst Sound-heading eh s,
-      subst Sound-items ei (j .0),
-      le,
+    let nil : rest .bytes ≡ [] = nil-from-length (rest .bytes) (subst (λ o. Cases o (length (rest .bytes) ≡ 0) (λ fault. Inside rest (item-place fault))) nf (j .1 .2)) in
+    (fr .0 ∙ ap₂ (λ (a : List ℕ) b. a ++ b) (ap₂ written eh ei) nil ∙ append-nil (written h items), subst Sound-heading eh s, le)
+
+sound-by : (tape : List ℕ) → Way tape → Sound-items (tape-says tape .items)
+sound-by tape (too-long g w) = subst (λ (x : Reading). Sound-items (x .items)) (sym w) tt
+sound-by tape (no-heading f g w) = subst (λ (x : Reading). Sound-items (x .items)) (sym w) tt
+sound-by tape (headed h r here le s t j w) = subst (λ (x : Reading). Sound-items (x .items)) (sym w) (j .0)
+
+-- An item's fault lies behind the forms of the heading and the items before it, and not past the tape.
+behind-front : (tape : List ℕ) (h : Heading) (r : ItemsRead) (here : Spot) (fault : ProgramFault) → Took (at 0 tape) (heading-form h) here → Items-judged here r → in-program (r .fault) ≡ Some fault
+    → (rest : List ℕ) × (tape ≡ written h (r .items) ++ rest) × (length (written h (r .items)) ≤ program-place fault) × (program-place fault ≤ length tape)
+behind-front tape h r here fault t j e =
+    let o = one-fault (r .fault) fault e in
+    let rest = j .1 .0 in
+    let i = subst (λ q. Cases q (length (rest .bytes) ≡ 0) (λ f. Inside rest (item-place f))) (o .1) (j .1 .2) in
+    let fr = front tape h (r .items) here rest t (j .1 .1) in
+    let l : length tape ≡ length (written h (r .items)) + length (rest .bytes) = ap length (fr .0) ∙ length-append (written h (r .items)) (rest .bytes) in
+    let p = fr .1 in
+    let lo = i .low in
+    let hi = i .high in (
+      rest .bytes,
+      fr .0,
+      subst (λ (x : ProgramFault). length (written h (r .items)) ≤ program-place x) (sym (o .2)) (omega arith),
+      subst (λ (x : ProgramFault). program-place x ≤ length tape) (sym (o .2)) (omega arith),
     )
 
 inside-by : (tape : List ℕ) (fault : ProgramFault) → tape-says tape .fault ≡ Some fault → Way tape → program-place fault ≤ length tape
@@ -108,15 +127,7 @@ inside-by tape fault e (too-long g w) =
 inside-by tape fault e (no-heading f g w) =
     let z : program.Heading f ≡ fault = let y = sym (faults _ _ w) ∙ e in cc in
     subst (λ (x : ProgramFault). program-place x ≤ length tape) z (let i = g .high in omega arith)
-inside-by tape fault e (headed h r here le s t j w) =
-    let o = one-fault (r .fault) fault (sym (faults _ _ w) ∙ e) in
-    let rest = j .1 .0 in
-    let i = subst (λ q. Cases q (length (rest .bytes) ≡ 0) (λ f. Inside rest (item-place f))) (o .1) (j .1 .2) in
-    let fr = front tape h (r .items) here rest t (j .1 .1) in
-    let l : length tape ≡ length (written h (r .items)) + length (rest .bytes) = ap length (fr .0) ∙ length-append (written h (r .items)) (rest .bytes) in
-    let p = fr .1 in
-    let hi = i .high in
-    subst (λ (x : ProgramFault). program-place x ≤ length tape) (sym (o .2)) (omega arith)
+inside-by tape fault e (headed h r here le s t j w) = behind-front tape h r here fault t j (sym (faults _ _ w) ∙ e) .3
 
 none-by : (tape : List ℕ) → tape-says tape .heading ≡ None → Way tape → (tape-says tape .items ≡ []) × ((fault : ProgramFault) × (tape-says tape .fault ≡ Some fault))
 none-by tape e (too-long g w) = (ap (λ (x : Reading). x .items) w, (program.TooLong, faults _ _ w))
@@ -124,31 +135,38 @@ none-by tape e (no-heading f g w) = (ap (λ (x : Reading). x .items) w, (program
 none-by tape e (headed h r here le s t j w) = let z = sym (headings _ _ w) ∙ e in never (cc)
 
 before-by : (tape : List ℕ) (h : Heading) (fault : ProgramFault) → tape-says tape .heading ≡ Some h → tape-says tape .fault ≡ Some fault → Way tape
-    → (cut : ℕ) × (cut ≤ program-place fault) × (tape-says (take cut tape) ≡ whole h (tape-says tape .items))
+    → let form = written h (tape-says tape .items) in
+    (length form ≤ program-place fault) × (take (length form) tape ≡ form) × (tape-says form ≡ whole h (tape-says tape .items))
 before-by tape h fault eh ef (too-long g w) = let z = sym (headings _ _ w) ∙ eh in never (cc)
 before-by tape h fault eh ef (no-heading f g w) = let z = sym (headings _ _ w) ∙ eh in never (cc)
 before-by tape h fault eh ef (headed h′ r here le s t j w) =
     let hh : h′ ≡ h = let z = sym (headings _ _ w) ∙ eh in cc in
-    let o = one-fault (r .fault) fault (sym (faults _ _ w) ∙ ef) in
-    let rest = j .1 .0 in
-    let i = subst (λ q. Cases q (length (rest .bytes) ≡ 0) (λ f. Inside rest (item-place f))) (o .1) (j .1 .2) in
-    let fr = front tape h′ (r .items) here rest t (j .1 .1) in
+    let b = behind-front tape h′ r here fault t j (sym (faults _ _ w) ∙ ef) in
     let form = written h′ (r .items) in
-    let l : length tape ≡ length form + length (rest .bytes) = ap length (fr .0) ∙ length-append form (rest .bytes) in
-    let p = fr .1 in
-    let lo = i .low in (
-      length form,
-      subst (λ (x : ProgramFault). length form ≤ program-place x) (sym (o .2)) (omega arith),
-      ap tape-says (ap (take (length form)) (fr .0) ∙ take-at form (rest .bytes) (length form) refl)
-          ∙ reads-back h′ (r .items) s (j .0) (omega arith)
-          ∙ ap₂ whole hh (sym (ap (λ (x : Reading). x .items) w)),
-    )
+    let l : length tape ≡ length form + length (b .0) = ap length (b .1) ∙ length-append form (b .0) in
+    let P : Heading → List Said → Type 0 =
+    λ x items. (length (written x items) ≤ program-place fault) × (take (length (written x items)) tape ≡ written x items) × (tape-says (written x items) ≡ whole x items) in
+    let here-holds : P h′ (r .items) = (b .2, ap (take (length form)) (b .1) ∙ take-at form (b .0) (length form) refl, reads-back h′ (r .items) s (j .0) (omega arith)) in
+    subst (λ (items : List Said). P h items) (sym (ap (λ (x : Reading). x .items) w)) (subst (λ (x : Heading). P x (r .items)) hh here-holds)
+
+enough : (tape : List ℕ) → tape-says (take (most-bytes + 1) tape) ≡ tape-says tape
+unfolding tape-says
+enough tape =
+    ⊎-elim
+    (λ h.
+    let n : length (take (most-bytes + 1) tape) ≡ most-bytes + 1 = length-take-le (most-bytes + 1) tape (omega arith) in
+    cond-true _ _ _ (lt-ltb most-bytes (length (take (most-bytes + 1) tape)) (omega arith)) ∙ sym (cond-true _ _ _ (lt-ltb most-bytes (length tape) h)))
+    (λ h. ap tape-says (take-all (most-bytes + 1) tape (omega arith)))
+    (cases-lt most-bytes (length tape))
 
 pub one-tape : One-tape
 one-tape = record {
   reads-back = reads-back;
+  is-bytes = written-bytes;
   only-form = λ tape h items f e. only-by tape h items e (way tape f);
+  sound-items = λ tape f. sound-by tape (way tape f);
   fault-inside = λ tape fault f e. inside-by tape fault e (way tape f);
   no-heading = λ tape f e. none-by tape e (way tape f);
   before-fault = λ tape h fault f eh ef. before-by tape h fault eh ef (way tape f);
+  enough = enough;
 }

@@ -1,7 +1,7 @@
 -- Figures by which the definitions of tape numbers can be judged by eye.
 use Prim.Native.Nat.{ℕ}
 use mathlib.Core.Path.{_≡_}
-use mathlib.Core.List.{List, [], _∷_}
+use mathlib.Core.List.{[], _∷_}
 use Rattle.std.specs.declared.option.Option.{Option}
 use Rattle.std.specs.declared.option.Option.the-variants.{Some, None}
 use Rattle.std.specs.declared.result.Result.{Result}
@@ -15,7 +15,7 @@ abbrev pub refused : Result (ℕ × ℕ) NumberFault → Option ℕ
 refused (Ok x) = None
 refused (Err fault) = Some (refusal-number (number-refusal fault))
 
--- The least and the greatest forms, and a form that is not the shortest.
+-- The greatest form of one byte, the least of two, the greatest of all, and one that is not the shortest.
 pub record Number-figures : Type 0 where
   pub one-byte : byte-form 127 ≡ 0x7F ∷ []
   pub two-bytes : byte-form 128 ≡ 0x80 ∷ 0x01 ∷ []

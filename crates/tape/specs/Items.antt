@@ -1,4 +1,4 @@
--- What the items of a tape say: a code byte, followed by the numbers that its kind needs, or by a remark.
+-- What the items of a tape say. An item begins with a code byte; what comes behind it depends on its kind.
 use Prim.Native.Nat.{ℕ, suc, _+_}
 use mathlib.Core.Bool.{Bool, cond, _&&_}
 use mathlib.Core.List.{List, [], _∷_}
@@ -46,18 +46,29 @@ abbrev pub told-item : List ℕ → Result Item ItemFault → Cursor → Result 
 told-item tape (Ok it) at = Ok (said it, spot tape at)
 told-item tape (Err fault) at = Err fault
 
--- A byte that may stand in a remark: ASCII from the space to the tilde.
+-- The least and the greatest byte that may stand in a remark: the space and the tilde of ASCII.
+abbrev pub space : ℕ
+space = 32
+
+abbrev pub tilde : ℕ
+tilde = 126
+
+-- A byte that may stand in a remark.
 abbrev pub printable : ℕ → Bool
-printable byte = leb 32 byte && leb byte 126
+printable byte = leb space byte && leb byte tilde
 
 -- How many bytes at the front of a list are printable.
 abbrev pub printable-front : List ℕ → ℕ
 printable-front [] = 0
 printable-front (byte ∷ bytes) = cond (printable byte) (suc (printable-front bytes)) 0
 
--- A remark has from 1 to 80 bytes.
+-- The most bytes that a remark has.
+abbrev pub most-remark : ℕ
+most-remark = 80
+
+-- A length that a remark may have: it is never empty.
 abbrev pub remark-length : ℕ → Bool
-remark-length count = leb 1 count && leb count 80
+remark-length count = leb 1 count && leb count most-remark
 
 -- The remark of `count` bytes at a spot, its length at `place`: the length is judged first, then whether all the bytes are there, then the bytes.
 abbrev pub remark-of : (place count : ℕ) → Spot → Result (Said × Spot) ItemFault

@@ -1,5 +1,5 @@
 -- The kinds that a tape names, and the number of each.
-use Prim.Native.Nat.{ℕ}
+use Prim.Native.Nat.{ℕ, _-_}
 use mathlib.Core.Bool.{cond}
 use mathlib.Core.List.{List, [], _∷_}
 use lib.Dec.{eqb}
@@ -45,11 +45,19 @@ stores = store.Number ∷ store.Byte ∷ store.Window ∷ []
 abbrev pub store-of : ℕ → Option StoreKind
 store-of n = with-number store-number stores n
 
--- The most words that a book in a store has: the window leaves sixteen of the 4,096 below it.
+-- The most words that a store has.
+abbrev pub store-words : ℕ
+store-words = 4096
+
+-- The word of the byte store below it at which a window begins.
+abbrev pub window-start : ℕ
+window-start = 16
+
+-- The most words that a book has in each store: a window is as much shorter as it begins later.
 abbrev pub most-words : StoreKind → ℕ
-most-words store.Number = 4096
-most-words store.Byte = 4096
-most-words store.Window = 4080
+most-words store.Number = store-words
+most-words store.Byte = store-words
+most-words store.Window = store-words - window-start
 
 -- The code byte with which each kind of item begins.
 abbrev pub item-code : ItemKind → ℕ

@@ -1,5 +1,5 @@
 -- What holds of tapes and their readings.
-use Prim.Native.Nat.{ℕ, _≤_}
+use Prim.Native.Nat.{ℕ, _+_, _≤_}
 use mathlib.Core.Path.{_≡_}
 use mathlib.Core.List.{List, []}
 use lib.ListN.{length, take}
@@ -18,14 +18,21 @@ whole h items = record { heading = Some h; items = items; fault = None }
 
 -- A tape has one reading and one form.
 pub record One-tape : Type 0 where
-  -- A heading and items, written down within a tape's length, read back as exactly them, with no fault.
+  -- A heading and items that a tape can hold, written down within a tape's length, read back as exactly them, with no fault.
   pub reads-back : (h : Heading) (items : List Said) → Sound-heading h → Sound-items items → length (written h items) ≤ most-bytes → tape-says (written h items) ≡ whole h items
+  -- What is written down is bytes.
+  pub is-bytes : (h : Heading) (items : List Said) → Sound-heading h → Sound-items items → Bytes (written h items)
   -- Every tape that reads with no fault is the written form of what it reads as.
-  pub only-form : (tape : List ℕ) (h : Heading) (items : List Said) → Bytes tape → tape-says tape ≡ whole h items → (tape ≡ written h items) × Sound-heading h × Sound-items items × (length tape ≤ most-bytes)
+  pub only-form : (tape : List ℕ) (h : Heading) (items : List Said) → Bytes tape → tape-says tape ≡ whole h items → (tape ≡ written h items) × Sound-heading h × (length tape ≤ most-bytes)
+  -- Items that are read, before a fault too, are such as a tape can hold.
+  pub sound-items : (tape : List ℕ) → Bytes tape → Sound-items (tape-says tape .items)
   -- A fault lies on the tape, or right behind it.
   pub fault-inside : (tape : List ℕ) (fault : ProgramFault) → Bytes tape → tape-says tape .fault ≡ Some fault → program-place fault ≤ length tape
-  -- Without a heading nothing is read; that is a fault.
+  -- Without a heading nothing is read, and there is a fault.
   pub no-heading : (tape : List ℕ) → Bytes tape → tape-says tape .heading ≡ None → (tape-says tape .items ≡ []) × ((fault : ProgramFault) × (tape-says tape .fault ≡ Some fault))
-  -- The items before a fault are those of the same tape, cut before the fault.
+  -- The heading and the items before a fault are those of the same tape cut before it: that is their written form.
   pub before-fault : (tape : List ℕ) (h : Heading) (fault : ProgramFault) → Bytes tape → tape-says tape .heading ≡ Some h → tape-says tape .fault ≡ Some fault
-      → (cut : ℕ) × (cut ≤ program-place fault) × (tape-says (take cut tape) ≡ whole h (tape-says tape .items))
+      → let front = written h (tape-says tape .items) in
+      (length front ≤ program-place fault) × (take (length front) tape ≡ front) × (tape-says front ≡ whole h (tape-says tape .items))
+  -- One byte more than a tape may have is enough to judge it.
+  pub enough : (tape : List ℕ) → tape-says (take (most-bytes + 1) tape) ≡ tape-says tape

@@ -1,5 +1,5 @@
 -- How a heading and items are written down as bytes, and which of them a tape can hold.
-use Prim.Native.Nat.{ℕ, _^_, _<_}
+use Prim.Native.Nat.{ℕ}
 use mathlib.Core.Path.{_≡_}
 use mathlib.Core.Bool.{true}
 use mathlib.Core.List.{List, [], _∷_, _++_}
@@ -11,11 +11,7 @@ use Rattle.tape.specs.declared.kind.ItemKind.the-variants as kind
 use Rattle.tape.specs.Headings.{fits-store}
 use Rattle.tape.specs.Items.{Said, start, read, write, seal, put, quit, look, remark, remark-length, printable-front}
 use Rattle.tape.specs.Kinds.{item-code, manager-number, store-number}
-use Rattle.tape_number.specs.Numbers.{byte-form}
-
--- A number that a tape can hold.
-abbrev pub Is-word : ℕ → Type 0
-Is-word number = number < 2 ^ 32
+use Rattle.tape_number.specs.Numbers.{byte-form, Is-u32}
 
 -- The kind of an item.
 abbrev pub kind-of : Said → ItemKind
@@ -45,13 +41,13 @@ item-form it = item-code (kind-of it) ∷ fields-form it
 
 -- An item that a tape can hold: numbers of 32 bits, and remarks of 1 to 80 printable bytes.
 abbrev pub Sound-item : Said → Type 0
-Sound-item (start job) = Is-word job
-Sound-item (read job word) = Is-word job × Is-word word
-Sound-item (write job word value) = Is-word job × Is-word word × Is-word value
-Sound-item (seal job) = Is-word job
-Sound-item (put job) = Is-word job
-Sound-item (quit job) = Is-word job
-Sound-item (look job) = Is-word job
+Sound-item (start job) = Is-u32 job
+Sound-item (read job word) = Is-u32 job × Is-u32 word
+Sound-item (write job word value) = Is-u32 job × Is-u32 word × Is-u32 value
+Sound-item (seal job) = Is-u32 job
+Sound-item (put job) = Is-u32 job
+Sound-item (quit job) = Is-u32 job
+Sound-item (look job) = Is-u32 job
 Sound-item (remark bytes) = (remark-length (length bytes) ≡ true) × (printable-front bytes ≡ length bytes)
 
 -- Items that a tape can hold.
@@ -65,7 +61,7 @@ heading-form h = byte-form (manager-number (h .manager)) ++ (byte-form (store-nu
 
 -- A heading that a tape can hold.
 abbrev pub Sound-heading : Heading → Type 0
-Sound-heading h = (fits-store (h .store) (h .words) ≡ true) × Is-word (h .commit) × Is-word (h .rank)
+Sound-heading h = (fits-store (h .store) (h .words) ≡ true) × Is-u32 (h .commit) × Is-u32 (h .rank)
 
 -- A heading and items, written down.
 abbrev pub written : Heading → List Said → List ℕ

@@ -9,7 +9,7 @@ use crate::kind::StoreByNumber;
 use crate::kind::StoreKind;
 use crate::reader::next_number;
 ghost use mathlib.Core.Path.{_≡_};
-ghost use Prim.Native.Nat.{ℕ, _≤_};
+ghost use Prim.Native.Nat.{_≤_};
 ghost use lib.ListN.{length};
 ghost use Rattle.tape.specs.Spots.{spot, told};
 ghost use Rattle.tape.specs.Headings.{fits-store, kind-at, words-at, heading-at};

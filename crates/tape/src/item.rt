@@ -7,7 +7,7 @@ use crate::reader::bytes_left;
 use crate::reader::next_bytes;
 use crate::reader::next_number;
 ghost use mathlib.Core.Path.{_≡_};
-ghost use Prim.Native.Nat.{ℕ, _≤_, _<_};
+ghost use Prim.Native.Nat.{_≤_, _<_};
 ghost use lib.ListN.{length};
 ghost use Rattle.tape.specs.Spots.{spot};
 ghost use Rattle.tape.specs.Items.{printable, printable-front, remark-length, told-item, remark-of, remark-at, fields-at, item-at};
@@ -32,7 +32,7 @@ pub enum Item<'a> {
 fn is_printable(b: u8) -> bool
     ensures { λ r. ⌜ r ≡ printable b ⌝ }
 {
-    b >= 32 && b <= 126
+    b >= b' ' && b <= b'~'
 }
 
 // Whether a remark may have such a length.

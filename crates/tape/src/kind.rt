@@ -4,36 +4,42 @@ ghost use Prim.Native.Nat.{ℕ};
 ghost use Rattle.std.specs.declared.option.Option.{Option};
 ghost use Rattle.tape.specs.Kinds.{manager-of, store-of, item-kind-of, most-words};
 
-// How the manager decides which job yields to which.
+// The most words that a store has.
+const STORE_WORDS: u32 = 4096;
+
+// The word of the byte store below it at which a window begins.
+const WINDOW_START: u32 = 16;
+
+// The contention managers, which decide which job yields to which.
 #[derive(Clone, Copy)]
 pub enum ManagerKind {
-    Timid = 0,
-    TwoPhase = 1,
-    Greedy = 2,
+    Timid,
+    TwoPhase,
+    Greedy,
 }
 
-// What the book's words are kept in.
+// The stores, in which the book's words are kept.
 #[derive(Clone, Copy)]
 pub enum StoreKind {
     // 32-bit numbers.
-    Number = 0,
+    Number,
     // Bytes, four to a word.
-    Byte = 1,
-    // The words from word 16 on of a byte store that has 16 words more.
-    Window = 2,
+    Byte,
+    // The words from `WINDOW_START` on of a byte store that has as many words more.
+    Window,
 }
 
-// What an item asks for.
+// The kinds of items.
 #[derive(Clone, Copy)]
 pub enum ItemKind {
-    Start = 1,
-    Read = 2,
-    Write = 3,
-    Seal = 4,
-    Put = 5,
-    Quit = 6,
-    Look = 7,
-    Remark = 8,
+    Start,
+    Read,
+    Write,
+    Seal,
+    Put,
+    Quit,
+    Look,
+    Remark,
 }
 
 // A kind that the heading names by a number.
@@ -76,8 +82,8 @@ impl StoreKind {
         ensures { λ r. ⌜ r ≡ most-words self ⌝ }
     {
         match self {
-            StoreKind::Number | StoreKind::Byte => 4096,
-            StoreKind::Window => 4080,
+            StoreKind::Number | StoreKind::Byte => STORE_WORDS,
+            StoreKind::Window => STORE_WORDS - WINDOW_START,
         }
     }
 }

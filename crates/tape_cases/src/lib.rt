@@ -1,9 +1,8 @@
 // Tapes, sound and damaged, with what is listed for each.
 #[cfg(test)]
 mod tests {
-    use listing::list;
+    use listing::list_bytes;
     use std::test::*;
-    use tape::reading::read_tape;
 
     struct Case {
         tape: &'static [u8],
@@ -323,8 +322,7 @@ mod tests {
     #[test]
     fn listings(rt: LibcRuntime) -> Result<(), Fail> {
         for case in &CASES {
-            let read = read_tape(rt.alloc(), case.tape)?;
-            let text = list(rt.alloc(), &read)?;
+            let text = list_bytes(rt.alloc(), case.tape)?;
             check_eq(text.as_str(), case.listing)?;
         }
         Ok(())

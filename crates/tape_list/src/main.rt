@@ -1,8 +1,7 @@
 // Lists the tape on standard input: its heading in words, a line for each item, and how it ends.
-use listing::list;
+use listing::list_bytes;
 use std::error::AnyError;
 use std::io::Read;
-use tape::reading::read_tape;
 use tape::refusal::MOST_BYTES;
 
 // One byte past the limit shows that a tape is too long, so no more is ever read.
@@ -11,8 +10,7 @@ const MOST_INPUT: u64 = MOST_BYTES as u64 + 1;
 fn run(rt: &LibcRuntime) -> Result<(), AnyError> {
     let mut bytes = Vec::new(rt.alloc());
     let _ = rt.stdin().take(MOST_INPUT).read_to_end(&mut bytes)?;
-    let tape = read_tape(rt.alloc(), &bytes)?;
-    let text = list(rt.alloc(), &tape)?;
+    let text = list_bytes(rt.alloc(), &bytes)?;
     print!(rt, "{text}")?;
     Ok(())
 }

@@ -1,22 +1,20 @@
 -- The byte form of a number is read back as that number, and nothing else is.
 use Prim.Native.Nat.{ℕ, zero, suc, _+_, _*_, _%_, _/_, _^_, _<_, _≤_}
 use native.Mathlib.Omega.{arith}
-use native.Mathlib.Numerals.{add-one}
-use native.Mathlib.Nat.{add-comm}
-use mathlib.Core.Path.{_≡_, refl, sym, ap, ap₂, _∙_}
-use mathlib.Core.Logic.{_⊎_, inl, inr, ⊎-elim}
+use mathlib.Core.Path.{_≡_, refl, sym, ap, ap₂, subst, _∙_}
+use mathlib.Core.Logic.{_⊎_, ⊎-elim}
 use mathlib.Core.Bool.{Bool, true, false, cond}
 use mathlib.Core.List.{List, [], _∷_, _++_, append-nil}
 use lib.Dec.{lit<}
 use lib.ListN.{length, getD, drop}
 use Rattle.std.proofs.shelf.Lists.{drop-all, drop-at}
-use Rattle.std.proofs.shelf.Tests.{lt-ltb, le-ltb, cases-lt, cases-bool, ltb-true, ltb-false, eqb-true, and-parts}
+use Rattle.std.proofs.shelf.Tests.{lt-ltb, le-ltb, cases-lt, cases-bool}
 use Rattle.std.specs.declared.result.Result.{Result}
 use Rattle.std.specs.declared.result.Result.the-variants.{Ok, Err}
 use Rattle.tape_number.specs.declared.fault.NumberFault.{NumberFault}
 use Rattle.tape_number.specs.declared.fault.NumberFault.the-variants.{Cut, Form}
-use Rattle.tape_number.specs.Numbers.{form-in, byte-form, over-top, padded, below, read-groups, read-number, Bytes, One-form}
-use Rattle.tape_number.proofs.Groups.{fits-top, not-padded, low-top, not-zero, read-high, read-padded, read-last, read-more}
+use Rattle.tape_number.specs.Numbers.{form-in, byte-form, over-top, padded, below, read-groups, read-number, number-place, Bytes, One-form}
+use Rattle.tape_number.proofs.Groups.{below-err, fits-top, not-padded, low-top, not-zero, read-high, read-padded, read-last, read-more}
 
 abbrev Said : Type 0
 Said = Result (ℕ × ℕ) NumberFault
@@ -60,16 +58,12 @@ reads-back n rest h =
     let e : 0 + length (form-in 5 n) ≡ length (form-in 5 n) = omega arith in
     back 4 0 n rest refl h (λ p. absurd (omega arith)) ∙ ap (λ k. Ok (n, k)) e
 
-below-bad : (d p : ℕ) (r : Said) → below d r ≡ Err (Form p) → r ≡ Err (Form p)
-below-bad d p (Ok x) e = cc
-below-bad d p (Err fault) e = e
-
 bad-step : (t q s : Bool) (b i d p : ℕ) (r r′ : Said) → (r ≡ Err (Form p) → r′ ≡ Err (Form p))
     → cond t (Err (Form 0)) (cond q (cond s (Err (Form 0)) (Ok (b, i))) (below d r)) ≡ Err (Form p)
     → cond t (Err (Form 0)) (cond q (cond s (Err (Form 0)) (Ok (b, i))) (below d r′)) ≡ Err (Form p)
 bad-step true q s b i d p r r′ f e = e
 bad-step false true s b i d p r r′ f e = e
-bad-step false false s b i d p r r′ f e = ap (below d) (f (below-bad d p r e))
+bad-step false false s b i d p r r′ f e = ap (below d) (f (below-err d r (Form p) e))
 
 bad-more : (i : ℕ) (bytes more : List ℕ) (p : ℕ) → read-groups i bytes ≡ Err (Form p) → read-groups i (bytes ++ more) ≡ Err (Form p)
 bad-more i [] more p e = let z : _≡_ {A = ℕ} 0 1 = cc in absurd (omega arith)
@@ -157,10 +151,6 @@ begins-with-form bytes n c f r =
     let k : h .2 .0 ≡ c = omega (arith, h .2 .1) in
     (h .0, sym k ∙ h .2 .2, h .2 .3 ∙ ap (λ j. form-in 5 n ++ drop j bytes) k)
 
-below-cut : (d p : ℕ) (r : Said) → below d r ≡ Err (Cut p) → r ≡ Err (Cut p)
-below-cut d p (Ok x) e = cc
-below-cut d p (Err fault) e = e
-
 -- Some bytes, cut from group i on at place p: the front of the form of a number above 0.
 abbrev Front : (i l p : ℕ) → List ℕ → Type 0
 Front i l p bytes = (p ≡ i + length bytes) × ((n next : ℕ) × (more : List ℕ) × (n < limit l) × (0 < n) × (bytes ++ (next ∷ more) ≡ form-in (suc l) n))
@@ -183,7 +173,7 @@ cut-by l i b bytes p e t ih r (high w) = let z : _≡_ {A = ℕ} 0 1 = cc in abs
 cut-by l i b bytes p e t ih r (last s low z w) = let y : _≡_ {A = ℕ} 0 1 = cc in absurd (omega arith)
 cut-by zero i b bytes p e t ih r (more s far w) = absurd (far (omega arith))
 cut-by (suc l) i b bytes p e t ih r (more s far w) =
-    cut-more i l b p bytes s t (ih l (omega arith) (below-cut (b % 128) p (read-groups (i + 1) bytes) (sym w ∙ r)))
+    cut-more i l b p bytes s t (ih l (omega arith) (below-err (b % 128) (read-groups (i + 1) bytes) (Cut p) (sym w ∙ r)))
 
 cut : (l i : ℕ) (bytes : List ℕ) (p : ℕ) → l + i ≡ 4 → Bytes bytes → read-groups i bytes ≡ Err (Cut p) → Front i l p bytes
 cut l i [] p e f r =
@@ -202,16 +192,56 @@ pub bad-stays : (bytes rest : List ℕ) (p : ℕ) → read-number bytes ≡ Err 
 unfolding read-number
 bad-stays bytes rest p e = bad-more 0 bytes rest p e
 
+-- A fault lies among the bytes, or right behind them.
+step-place : (t q s : Bool) (b i d n : ℕ) (r : Result (ℕ × ℕ) NumberFault) (fault : NumberFault) → (r ≡ Err fault → number-place fault ≤ n)
+    → cond t (Err (Form 0)) (cond q (cond s (Err (Form 0)) (Ok (b, i))) (below d r)) ≡ Err fault → number-place fault ≤ n
+step-place true q s b i d n r fault f e = let z : Form 0 ≡ fault = cc in subst (λ (x : NumberFault). number-place x ≤ n) z (omega arith)
+step-place false true true b i d n r fault f e = let z : Form 0 ≡ fault = cc in subst (λ (x : NumberFault). number-place x ≤ n) z (omega arith)
+step-place false true false b i d n r fault f e = let z : _≡_ {A = ℕ} 0 1 = cc in absurd (omega arith)
+step-place false false s b i d n r fault f e = f (below-err d r fault e)
+
+groups-place : (i : ℕ) (bytes : List ℕ) (fault : NumberFault) → read-groups i bytes ≡ Err fault → number-place fault ≤ i + length bytes
+groups-place i [] fault e = let z : Cut i ≡ fault = cc in subst (λ (x : NumberFault). number-place x ≤ i + 0) z (omega arith)
+groups-place i (b ∷ bytes) fault e =
+    step-place (over-top i b) _ (padded i b) b (i + 1) _ (i + suc (length bytes)) (read-groups (i + 1) bytes) fault
+    (λ h. let g = groups-place (i + 1) bytes fault h in omega arith) e
+
+pub number-inside : (bytes : List ℕ) (fault : NumberFault) → read-number bytes ≡ Err fault → number-place fault ≤ length bytes
+unfolding read-number
+number-inside bytes fault e = let h = groups-place 0 bytes fault e in omega arith
+
+one-small : (n i : ℕ) → n < 256 → getD (n ∷ []) i 0 < 256
+one-small n zero h = h
+one-small n (suc i) h = lit< tt
+
+form-more : (k n i : ℕ) → ((i : ℕ) → getD (form-in k (n / 128)) i 0 < 256) → getD ((128 + n % 128) ∷ form-in k (n / 128)) i 0 < 256
+form-more k n zero f = omega arith
+form-more k n (suc i) f = f i
+
+form-bytes : (k n : ℕ) → n < limit k → (i : ℕ) → getD (form-in (suc k) n) i 0 < 256
+form-bytes zero n h i =
+    let s : n < 128 = omega arith in
+    subst (λ (bs : List ℕ). getD bs i 0 < 256) (sym (one-byte 0 n s)) (one-small n i (omega arith))
+form-bytes (suc k) n h i =
+    ⊎-elim
+    (λ s. subst (λ (bs : List ℕ). getD bs i 0 < 256) (sym (one-byte (suc k) n s)) (one-small n i (omega arith)))
+    (λ s. subst (λ (bs : List ℕ). getD bs i 0 < 256) (sym (more-bytes (suc k) n s)) (form-more (suc k) n i (form-bytes k (n / 128) (omega arith))))
+    (cases-lt n 128)
+
+pub is-bytes : (n : ℕ) → n < 2 ^ 32 → Bytes (byte-form n)
+unfolding byte-form
+is-bytes n h = form-bytes 4 n h
+
 only-form : (bytes : List ℕ) (n : ℕ) → Bytes bytes → read-number bytes ≡ Ok (n, length bytes) → bytes ≡ byte-form n
 only-form bytes n f r =
     begins-with-form bytes n (length bytes) f r .2 ∙ ap (λ (bs : List ℕ). byte-form n ++ bs) (drop-all (length bytes) bytes (omega arith)) ∙ append-nil (byte-form n)
 
 pub one-form : One-form
-one-form =
-    record {
-      reads-back = λ n rest h. (reads-back n rest h, drop-at (byte-form n) rest (length (byte-form n)) refl);
-      begins-with-form = begins-with-form;
-      only-form = only-form;
-      bad-stays = bad-stays;
-      cut-front = cut-front;
-    }
+one-form = record {
+  reads-back = λ n rest h. (reads-back n rest h, drop-at (byte-form n) rest (length (byte-form n)) refl);
+  is-bytes = is-bytes;
+  begins-with-form = begins-with-form;
+  only-form = only-form;
+  bad-stays = bad-stays;
+  cut-front = cut-front;
+}

@@ -3,11 +3,11 @@ use Prim.Native.Nat.{ℕ, zero, suc, _+_, _*_, _%_, _^_, _<_, _≤_}
 use native.Mathlib.Omega.{arith}
 use native.Mathlib.Nat.{pow-suc, add-mul, mul-assoc}
 use native.Mathlib.Numerals.{add-one}
-use mathlib.Core.Path.{_≡_, refl, sym, ap, _∙_}
+use mathlib.Core.Path.{_≡_, refl, ap}
 use mathlib.Core.Bool.{true, false}
 use mathlib.Core.Logic.{⊎-elim}
-use mathlib.Core.List.{List, [], _∷_}
-use Rattle.std.proofs.shelf.Tests.{eq-eqb, ne-eqb, lt-ltb, le-ltb, cases-eq, cases-lt, and-right, and-left}
+use mathlib.Core.List.{List, _∷_}
+use Rattle.std.proofs.shelf.Tests.{ne-eqb, lt-ltb, le-ltb, cases-eq, cases-lt, and-right, and-left}
 use Rattle.std.proofs.shelf.Ways.{tells}
 use Rattle.std.specs.declared.result.Result.{Result}
 use Rattle.std.specs.declared.result.Result.the-variants.{Ok, Err}
@@ -73,3 +73,8 @@ weight-fits (suc zero) w h e = rw e (omega arith)
 weight-fits (suc (suc zero)) w h e = rw e (omega arith)
 weight-fits (suc (suc (suc zero))) w h e = rw e (omega arith)
 weight-fits (suc (suc (suc (suc i)))) w h e = absurd (omega arith)
+
+-- A fault of the later groups is the fault of all.
+pub below-err : (d : ℕ) (r : Result (ℕ × ℕ) NumberFault) (fault : NumberFault) → below d r ≡ Err fault → r ≡ Err fault
+below-err d (Ok x) fault e = let z : _≡_ {A = ℕ} 0 1 = cc in absurd (omega arith)
+below-err d (Err f) fault e = e

@@ -11,6 +11,7 @@ pub enum NumberFault {
 }
 
 impl NumberFault {
+    // The place that the fault names.
     pub fn place(self) -> usize
         ensures { λ r. ⌜ r ≡ number-place self ⌝ }
     {

@@ -1,26 +1,29 @@
-// Numbers on a tape: groups of seven bits, lowest first, the high bit set on all bytes but the last, in the shortest
-// form, at most 32 bits.
+// Tape numbers are little-endian in base 128: a byte holds seven bits, and its top bit tells that more follow.
 use crate::fault::NumberFault;
 use std::alloc::AllocError;
 ghost use mathlib.Core.Path.{_≡_};
-ghost use mathlib.Core.Bool.{cond};
+ghost use mathlib.Core.Bool.{cond, true};
 ghost use mathlib.Core.List.{_++_};
-ghost use Prim.Native.Nat.{ℕ, _+_, _*_, _-_, _%_, _^_, _<_, _≤_};
+ghost use Prim.Native.Nat.{_+_, _*_, _-_, _%_, _<_, _≤_};
 ghost use lib.ListN.{length};
-ghost use Rattle.std.specs.Of.Vec.{vec-items};
+ghost use Rattle.std.specs.Of.Vec.{vec-items, vec-len, vec-cap};
 ghost use Rattle.std.specs.Results.{isOk, Cases};
-ghost use Rattle.tape_number.specs.Numbers.{byte-form, read-number, over-top, padded, number-place, One-form};
+ghost use Rattle.tape_number.specs.Numbers.{byte-form, read-number, over-top, padded, number-place, group-size, last-group, Is-u32, One-form};
 
 // A byte below this is the last of its number.
 const HIGH: u8 = 128;
-// One past the greatest value of a group, and so the weight of the second.
+
+// How many values a group has.
 const GROUP: u32 = 128;
-// The last group that a number can have, counted from 0, and its greatest value: 28 bits lie below it.
+
+// The last group that a number can have, counted from 0.
 const LAST_GROUP: usize = 4;
 
+// The greatest value of the last group: 28 bits lie below it.
 const LAST_TOP: u8 = 0x0F;
+
 // The most bytes that a number takes.
-const MOST: usize = 5;
+const MOST: usize = LAST_GROUP + 1;
 
 // Whether group i, read from byte b, would take the number over 32 bits.
 fn is_over_top(i: usize, b: u8) -> bool
@@ -38,22 +41,22 @@ fn is_padded(i: usize, b: u8) -> bool
 
 // The seven bits that a byte gives.
 fn group(b: u8) -> u32
-    ensures { λ r. ⌜ r ≡ b % 128 ⌝ }
+    ensures { λ r. ⌜ r ≡ b % group-size ⌝ }
 {
     u32::from(b % HIGH)
 }
 
 // The byte of a number's lowest group, where others follow.
 fn high_byte(rest: u32) -> u8
-    ensures { λ r. ⌜ r ≡ rest % 128 + 128 ⌝ }
+    ensures { λ r. ⌜ r ≡ rest % group-size + group-size ⌝ }
 {
     (rest % GROUP) as u8 + HIGH
 }
 
 // The weight of the next group.
 fn next_weight(weight: u32) -> u32
-    requires { ⌜ weight * 128 < 2 ^ 32 ⌝ }
-    ensures { λ r. ⌜ r ≡ weight * 128 ⌝ }
+    requires { ⌜ Is-u32 (weight * group-size) ⌝ }
+    ensures { λ r. ⌜ r ≡ weight * group-size ⌝ }
 {
     weight * GROUP
 }
@@ -85,6 +88,7 @@ pub fn decode(bytes: &[u8]) -> Result<(u32, usize), NumberFault>
 // Adds the byte form of a number to `out`; without memory for it, `out` stays as it was.
 pub fn encode(value: u32, out: &mut Vec<u8>) -> Result<(), AllocError>
     ensures form { λ r. ⌜ vec-items (now (out .exit)) ≡ cond (isOk r) (vec-items (now (out .entry)) ++ byte-form value) (vec-items (now (out .entry))) ⌝ }
+    ensures room { λ r. ⌜ (vec-len (now (out .entry)) + (last-group + 1) ≤ vec-cap (now (out .entry)) → isOk r ≡ true) ⌝ }
     ensures law { λ _. ⌜ One-form ⌝ }
 {
     out.reserve(MOST)?;

@@ -1,12 +1,11 @@
-use Prim.Native.Nat.{ℕ, _+_, _-_, _<_, _≤_}
-use native.Mathlib.Omega.{arith}
+use Prim.Native.Nat.{_+_, _-_, _<_, _≤_}
 use mathlib.Core.Path.{_≡_, refl, sym, ap, _∙_}
-use lib.ListN.{length, take, drop, getD}
+use lib.ListN.{length, getD}
 use borrow.Author.Needs.{needs}
 use Rattle.std.specs.declared.option.Option.the-variants.{None, Some}
 use Rattle.tape.specs.Kinds.{item-kind-of}
-use Rattle.tape.specs.Spots.{Spot, spot, past}
-use Rattle.tape.specs.Items.{item-at, item-from, coded, fields-at}
+use Rattle.tape.specs.Spots.{spot, past}
+use Rattle.tape.specs.Items.{item-at, coded, fields-at}
 use Rattle.tape.proofs.Codes.{item-none, item-some}
 use Rattle.tape.proofs.Steps.{rest-past}
 use Rattle.tape.proofs.item.next_item.Needs as need

@@ -1,5 +1,3 @@
-use native.Mathlib.Omega.{arith}
-use mathlib.Core.Path.{sym}
 use Rattle.tape.proofs.Steps.{take-between}
 use Rattle.tape.proofs.reader.next_bytes.Needs as need
 

@@ -1,4 +1,4 @@
-use mathlib.Core.Path.{_≡_, sym, ap, _∙_}
+use mathlib.Core.Path.{ap, _∙_}
 use Rattle.std.proofs.shelf.Results.{made-from-err}
 use Rattle.tape.specs.Tapes.{stopped}
 use Rattle.tape.proofs.Wholes.{one-tape}

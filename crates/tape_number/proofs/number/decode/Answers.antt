@@ -1,4 +1,4 @@
-use Prim.Native.Nat.{ℕ, zero, _≤_, _<_, _%_, _+_, _*_, _^_}
+use Prim.Native.Nat.{ℕ, _≤_, _<_, _%_, _+_, _*_, _^_}
 use native.Mathlib.Omega.{arith}
 use native.Mathlib.Nat.{le-refl}
 use mathlib.Core.Path.{_≡_, sym, ap, subst, _∙_}

@@ -12,7 +12,7 @@ use Rattle.tape_number.proofs.number.encode.Needs as need
 pub returns-in-Break-reserve : need.returns-in-Break-reserve
 returns-in-Break-reserve c =
     let p = err-from-errBy (c .from-residual .result) (c .from-residual .ensures .1) in
-    record { form = rw (p .1) (c .reserve .ensures .items); law = one-form }
+    record { form = rw (p .1) (c .reserve .ensures .items); room = λ h. let full = c .in-Break-reserve .ensures tt .cases in absurd (omega arith); law = one-form }
 
 pub loop-rest-holds : need.loop-rest-holds
 unfolding byte-form
@@ -41,4 +41,4 @@ returns c =
     let i = c .loop-rest .inv in
     let last : vec-items (c .loop-rest .out) ++ form-in (suc (i .0)) (c .loop-rest .rest) ≡ vec-items (c .push-reserved-2 .last .self) =
     ap (λ xs. vec-items (c .loop-rest .out) ++ xs) (one-byte (i .0) (c .loop-rest .rest) (c .loop-rest-test .left)) ∙ sym (c .push-reserved-2 .ensures .items) in
-    record { form = sym (ap (λ xs. xs ++ byte-form (c .args .value)) (sym (c .reserve .ensures .items)) ∙ i .3 ∙ last); law = one-form }
+    record { form = sym (ap (λ xs. xs ++ byte-form (c .args .value)) (sym (c .reserve .ensures .items)) ∙ i .3 ∙ last); room = λ h. refl; law = one-form }
