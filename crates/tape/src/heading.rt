@@ -33,6 +33,7 @@ fn is_fit(store: StoreKind, words: u32) -> bool
     words >= 1 && words <= store.most_words()
 }
 
+// The kind whose number stands where the cursor stands.
 fn next_kind<K: Kind>(tape: &[u8], at: &mut Cursor) -> Result<K, HeadingFault>
     requires { ⌜ now at .end ≤ length (now tape) ⌝ }
     ensures value { λ r. ⌜ told (now (tape .entry)) r (now (at .exit)) ≡ kind-at numbered (spot (now (tape .entry)) (now (at .entry))) ⌝ }
@@ -46,6 +47,7 @@ fn next_kind<K: Kind>(tape: &[u8], at: &mut Cursor) -> Result<K, HeadingFault>
     }
 }
 
+// The number of words where the cursor stands, for a book in such a store.
 fn next_words(store: StoreKind, tape: &[u8], at: &mut Cursor) -> Result<u32, HeadingFault>
     requires { ⌜ now at .end ≤ length (now tape) ⌝ }
     ensures value { λ r. ⌜ told (now (tape .entry)) r (now (at .exit)) ≡ words-at store (spot (now (tape .entry)) (now (at .entry))) ⌝ }

@@ -29,6 +29,7 @@ impl Refusal {
     }
 }
 
+// The refusal that a number's fault meets.
 fn number_refusal(fault: NumberFault) -> Refusal
     ensures { λ r. ⌜ r ≡ number-refusal fault ⌝ }
 {
@@ -39,6 +40,7 @@ fn number_refusal(fault: NumberFault) -> Refusal
 }
 
 impl ItemFault {
+    // The refusal that the fault meets.
     fn refusal(self) -> Refusal
         ensures { λ r. ⌜ r ≡ item-refusal self ⌝ }
     {
@@ -50,6 +52,7 @@ impl ItemFault {
         }
     }
 
+    // The place that the fault names.
     fn place(self) -> usize
         ensures { λ r. ⌜ r ≡ item-place self ⌝ }
     {
@@ -62,6 +65,7 @@ impl ItemFault {
 }
 
 impl HeadingFault {
+    // The refusal that the fault meets.
     fn refusal(self) -> Refusal
         ensures { λ r. ⌜ r ≡ heading-refusal self ⌝ }
     {
@@ -72,6 +76,7 @@ impl HeadingFault {
         }
     }
 
+    // The place that the fault names.
     fn place(self) -> usize
         ensures { λ r. ⌜ r ≡ heading-place self ⌝ }
     {
@@ -83,6 +88,7 @@ impl HeadingFault {
 }
 
 impl ProgramFault {
+    // The refusal that the fault meets.
     pub fn refusal(self) -> Refusal
         ensures { λ r. ⌜ r ≡ program-refusal self ⌝ }
     {
@@ -93,6 +99,7 @@ impl ProgramFault {
         }
     }
 
+    // The place that the fault names.
     pub fn place(self) -> usize
         ensures { λ r. ⌜ r ≡ program-place self ⌝ }
     {

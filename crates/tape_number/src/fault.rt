@@ -6,7 +6,7 @@ ghost use Rattle.tape_number.specs.Numbers.{number-place};
 pub enum NumberFault {
     // The bytes end before the number does; the place is where they end.
     Cut { place: usize },
-    // Over 32 bits, or not in the shortest form; the place is the number's first byte.
+    // More than 32 bits, or a longer form than need be; the place is where the number begins.
     Form { place: usize },
 }
 
