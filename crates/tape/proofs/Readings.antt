@@ -14,7 +14,6 @@ use Rattle.std.specs.declared.option.Option.the-variants.{None}
 use Rattle.std.specs.declared.result.Result.{Result}
 use Rattle.std.specs.declared.result.Result.the-variants.{Ok, Err}
 use Rattle.tape.specs.declared.fault.ItemFault.{ItemFault}
-use Rattle.tape.specs.Faults.{item-place}
 use Rattle.tape.specs.Items.{Said, item-at}
 use Rattle.tape_number.specs.Numbers.{Bytes}
 use Rattle.tape.specs.Spots.{Spot}
@@ -22,7 +21,7 @@ use Rattle.tape.specs.Tapes.{ItemsRead, at-end, after-item, items-within, item
 use Rattle.tape.specs.Written.{item-form, Sound-items}
 use Rattle.tape.proofs.Backs.{at, item-back}
 use Rattle.tape.proofs.Judged.{Inside, Took, took-bytes, took-both, Judged}
-use Rattle.tape.proofs.Parts.{Item-read, item-judged}
+use Rattle.tape.proofs.Parts.{item-found, Item-read, item-judged}
 
 pub some-form : (it : Said) → 0 < length (item-form it)
 unfolding item-form
@@ -34,7 +33,7 @@ took-fewer {after = after} {form = form} t = ap length (t .split) ∙ length-app
 
 pub item-fewer : (here : Spot) → Bytes (here .bytes) → (it : Said) (after : Spot) → item-at here ≡ Ok (it, after) → (length (after .bytes) < length (here .bytes)) × Bytes (after .bytes)
 item-fewer here f it after e =
-    let j = subst (λ (r : Result (Said × Spot) ItemFault). Judged Item-read item-place here here r) e (item-judged here f) in
+    let j = subst (λ (r : Result (Said × Spot) ItemFault). Judged Item-read item-found here here r) e (item-judged here f) in
     let l = took-fewer (j .2) in
     let p = some-form it in
     let q : length (j .0) ≡ length (item-form it) = ap length (j .1 .1) in
@@ -74,12 +73,12 @@ items-more here f h =
 abbrev pub Items-judged : Spot → ItemsRead → Type 0
 Items-judged here r =
     Sound-items (r .items)
-    × ((rest : Spot) × Took here (joined item-form (r .items)) rest × Cases (r .fault) (length (rest .bytes) ≡ 0) (λ fault. Inside rest (item-place fault)))
+    × ((rest : Spot) × Took here (joined item-form (r .items)) rest × Cases (r .fault) (length (rest .bytes) ≡ 0) (λ fault. Inside rest (item-found fault)))
 
 end-judged : (here : Spot) → length (here .bytes) ≡ 0 → Items-judged here at-end
 end-judged here e = (tt, (here, record { split = refl; moved = omega arith }, e))
 
-after-judged : (F : Spot → ItemsRead) (here : Spot) → Bytes (here .bytes) → (r : Result (Said × Spot) ItemFault) → Judged Item-read item-place here here r
+after-judged : (F : Spot → ItemsRead) (here : Spot) → Bytes (here .bytes) → (r : Result (Said × Spot) ItemFault) → Judged Item-read item-found here here r
     → ((it : Said) (after : Spot) → Took here (item-form it) after → Items-judged after (F after)) → Items-judged here (after-item F r)
 after-judged F here f (Ok x) j k =
     let t : Took here (item-form (x .0)) (x .1) = subst (λ bs. Took here bs (x .1)) (j .1 .1) (j .2) in

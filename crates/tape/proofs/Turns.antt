@@ -5,7 +5,9 @@ use mathlib.Core.Path.{_≡_, sym, ap, subst, _∙_}
 use mathlib.Core.Logic.{⊎-elim}
 use mathlib.Core.List.{List, [], _∷_}
 use lib.Dec.{lit<}
-use lib.ListN.{length, take, drop, length-take}
+use lib.ListN.{length, getD, take, drop, length-take}
+use mir.Syntax.{w8}
+use mir.Val.{Fits}
 use Rattle.std.proofs.shelf.Lists.{getD-take, getD-drop, getD-past}
 use Rattle.std.proofs.shelf.Tests.{cases-lt}
 use Rattle.std.specs.declared.option.Option.the-variants.{Some}
@@ -18,6 +20,10 @@ use Rattle.tape.specs.Spots.{spot}
 use Rattle.tape.specs.Tapes.{at-end, after-item, items-at}
 use Rattle.tape.proofs.Readings.{item-fewer, items-more, items-none}
 use Rattle.tape.proofs.Steps.{length-between}
+
+-- What the checker knows of the bytes of a slice.
+pub typed-bytes : (tape : List ℕ) → ((i : ℕ) → Fits w8 (getD tape i 0)) → Bytes tape
+typed-bytes tape f i = let h = f i in omega arith
 
 pub bytes-between : (n p : ℕ) (tape : List ℕ) → Bytes tape → Bytes (take n (drop p tape))
 bytes-between n p tape f k =

@@ -6,7 +6,8 @@ use lib.ListN.{length, take}
 use Rattle.std.specs.declared.option.Option.the-variants.{Some, None}
 use Rattle.tape.specs.declared.fault.ProgramFault.{ProgramFault}
 use Rattle.tape.specs.declared.heading.Heading.{Heading}
-use Rattle.tape.specs.Faults.{most-bytes, program-place}
+use Rattle.tape.specs.declared.refusal.Refusal.the-variants.{CutShort}
+use Rattle.tape.specs.Faults.{most-bytes, program-refusal, program-place}
 use Rattle.tape.specs.Items.{Said}
 use Rattle.tape_number.specs.Numbers.{Bytes}
 use Rattle.tape.specs.Tapes.{Reading, tape-says}
@@ -26,8 +27,9 @@ pub record One-tape : Type 0 where
   pub only-form : (tape : List ℕ) (h : Heading) (items : List Said) → Bytes tape → tape-says tape ≡ whole h items → (tape ≡ written h items) × Sound-heading h × (length tape ≤ most-bytes)
   -- Items that are read, before a fault too, are such as a tape can hold.
   pub sound-items : (tape : List ℕ) → Bytes tape → Sound-items (tape-says tape .items)
-  -- A fault lies on the tape, or right behind it.
-  pub fault-inside : (tape : List ℕ) (fault : ProgramFault) → Bytes tape → tape-says tape .fault ≡ Some fault → program-place fault ≤ length tape
+  -- A fault lies on the tape, or right behind it; what is cut short is told at the tape's length.
+  pub fault-inside : (tape : List ℕ) (fault : ProgramFault) → Bytes tape → tape-says tape .fault ≡ Some fault
+      → (program-place fault ≤ length tape) × (program-refusal fault ≡ CutShort → program-place fault ≡ length tape)
   -- Without a heading nothing is read, and there is a fault.
   pub no-heading : (tape : List ℕ) → Bytes tape → tape-says tape .heading ≡ None → (tape-says tape .items ≡ []) × ((fault : ProgramFault) × (tape-says tape .fault ≡ Some fault))
   -- The heading and the items before a fault are those of the same tape cut before it: that is their written form.

@@ -9,15 +9,14 @@ use Rattle.std.proofs.shelf.Results.{err-from-errBy}
 use Rattle.std.specs.declared.result.Result.the-variants.{Err}
 use Rattle.tape.specs.declared.item.Item.{Item}
 use Rattle.tape.specs.Items.{Said, said}
-use Rattle.tape_number.specs.Numbers.{Bytes}
 use Rattle.tape.specs.Tapes.{ItemsRead, in-program}
-use Rattle.tape.proofs.Turns.{items-ended, turn-fault, turn-item}
+use Rattle.tape.proofs.Turns.{typed-bytes, items-ended, turn-fault, turn-item}
 use Rattle.tape.proofs.reading.read_items.Needs as need
 
 pub returns-in-Break-item : need.returns-in-Break-item
 returns-in-Break-item c =
     let l = c .loop-at in
-    let f : Bytes (c .args .bytes .now) = λ k. let h = c .typed .bytes k in omega arith in
+    let f = typed-bytes (c .args .bytes .now) (c .typed .bytes) in
     let e = turn-fault (c .args .bytes .now) (l .at) f (l .inv .0) (c .in-Break-item .field-0 .0) (c .loop-at-test .taken) (c .in-Break-item .ensures tt .value) in
     let p = err-from-errBy (c .from-residual .result) (c .from-residual .ensures .1) in
     record {
@@ -28,7 +27,7 @@ returns-in-Break-item c =
 pub loop-at-less : need.loop-at-less
 loop-at-less c =
     let l = c .loop-at in
-    let f : Bytes (c .args .bytes .now) = λ k. let h = c .typed .bytes k in omega arith in
+    let f = typed-bytes (c .args .bytes .now) (c .typed .bytes) in
     turn-item (c .args .bytes .now) (l .at) f (l .inv .0) _ (c .next-item .last .at) (c .loop-at-test .taken) (c .in-Continue-item .ensures tt .end) (c .in-Continue-item .ensures tt .value) .0
 
 -- An item put behind the others, and those that are still to come.
@@ -38,7 +37,7 @@ one-more was now it rest e = rw (e, map-push said was it, append-assoc)
 pub loop-at-again : need.loop-at-again
 loop-at-again c =
     let l = c .loop-at in
-    let f : Bytes (c .args .bytes .now) = λ k. let h = c .typed .bytes k in omega arith in
+    let f = typed-bytes (c .args .bytes .now) (c .typed .bytes) in
     let s = turn-item (c .args .bytes .now) (l .at) f (l .inv .0) _ (c .next-item .last .at) (c .loop-at-test .taken) (c .in-Continue-item .ensures tt .end) (c .in-Continue-item .ensures tt .value) in
     let end = c .in-Continue-item .ensures tt .end in
     let len = c .push-reserved .ensures .len in
@@ -53,7 +52,7 @@ loop-at-again c =
 pub returns : need.returns
 returns c =
     let l = c .loop-at in
-    let f : Bytes (c .args .bytes .now) = λ k. let h = c .typed .bytes k in omega arith in
+    let f = typed-bytes (c .args .bytes .now) (c .typed .bytes) in
     let e = items-ended (c .args .bytes .now) (l .at) f (l .inv .0) (c .loop-at-test .left) in
     record {
       items = sym (l .inv .2 ∙ ap (λ (r : ItemsRead). map said (vec-items (l .items)) ++ r .items) e ∙ append-nil _);
