@@ -46,10 +46,11 @@ abbrev pub told-item : List ℕ → Result Item ItemFault → Cursor → Result 
 told-item tape (Ok it) at = Ok (said it, spot tape at)
 told-item tape (Err fault) at = Err fault
 
--- The least and the greatest byte that may stand in a remark: the space and the tilde of ASCII.
+-- The least byte that may stand in a remark: the space of ASCII.
 abbrev pub space : ℕ
 space = 32
 
+-- The greatest byte that may stand in a remark: the tilde of ASCII.
 abbrev pub tilde : ℕ
 tilde = 126
 

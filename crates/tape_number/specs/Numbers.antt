@@ -14,10 +14,11 @@ use Rattle.tape_number.specs.declared.fault.NumberFault.the-variants.{Cut, For
 abbrev pub group-size : ℕ
 group-size = 128
 
--- The last group that a number can have, counted from 0, and its greatest value: 28 bits lie below it.
+-- The last group that a number can have, counted from 0.
 abbrev pub last-group : ℕ
 last-group = 4
 
+-- The greatest value of the last group: 28 bits lie below it, so four are left.
 abbrev pub last-top : ℕ
 last-top = 15
 
@@ -35,7 +36,7 @@ form-in (suc groups) number =
 unfoldable pub byte-form : ℕ → List ℕ
 byte-form number = form-in (suc last-group) number
 
--- Group i, counted from 0, would take the number over 32 bits: the fifth group has four bits left.
+-- Read as group i, a byte would take the number over 32 bits.
 abbrev pub over-top : (i byte : ℕ) → Bool
 over-top i byte = eqb i last-group && ltb last-top byte
 
