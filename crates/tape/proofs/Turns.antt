@@ -47,12 +47,12 @@ module _ (tape : List ℕ) (at : Cursor) (bytes : Bytes tape) (inside : at .end 
   pub turn-fault : (fault : ItemFault) → at .place < at .end → Err fault ≡ item-at (spot tape at) → items-at (spot tape at) ≡ record { items = []; fault = Some fault }
   turn-fault fault h e = turn-more h ∙ ap (after-item items-at) (sym e)
 
-  pub turn-item : (it : Said) (after : Cursor) → at .place < at .end → after .end ≡ at .end → Ok (it, spot tape after) ≡ item-at (spot tape at)
+  pub turn-item : (it : Said) (after : Cursor) → at .place < at .end → after .end ≤ length tape → Ok (it, spot tape after) ≡ item-at (spot tape at)
       → (after .end - after .place < at .end - at .place)
       × (items-at (spot tape at) ≡ record { items = it ∷ items-at (spot tape after) .items; fault = items-at (spot tape after) .fault })
   turn-item it after h e r =
       let l = length-between tape (at .place) (at .end) inside in
-      let m = length-between tape (after .place) (after .end) (omega arith) in
+      let m = length-between tape (after .place) (after .end) e in
       let w = item-fewer (spot tape at) spot-bytes it (spot tape after) (sym r) in
       let v = w .0 in
       (omega arith, turn-more h ∙ ap (after-item items-at) (sym r))

@@ -41,10 +41,10 @@ said (item.Quit job) = quit job
 said (item.Look job) = look job
 said (item.Remark bytes) = remark (now bytes)
 
--- An item that the code has read, with the spot at which its cursor then stands.
-abbrev pub told-item : List ℕ → Result Item ItemFault → Cursor → Result (Said × Spot) ItemFault
-told-item tape (Ok it) at = Ok (said it, spot tape at)
-told-item tape (Err fault) at = Err fault
+-- An item that the code has read, with the spot of the cursor that it gives.
+abbrev pub told-item : List ℕ → Result (Item × Cursor) ItemFault → Result (Said × Spot) ItemFault
+told-item tape (Ok x) = Ok (said (x .0), spot tape (x .1))
+told-item tape (Err fault) = Err fault
 
 -- The least byte that may stand in a remark: the space of ASCII.
 abbrev pub space : ℕ

@@ -1,7 +1,7 @@
 -- Where a reader stands on a tape, and the number that it reads there.
-use Prim.Native.Nat.{ℕ, _+_, _-_}
+use Prim.Native.Nat.{ℕ, _+_, _-_, _≤_}
 use mathlib.Core.List.{List}
-use lib.ListN.{take, drop}
+use lib.ListN.{length, take, drop}
 use Rattle.std.specs.declared.result.Result.{Result}
 use Rattle.std.specs.declared.result.Result.the-variants.{Ok, Err}
 use Rattle.tape.specs.declared.cursor.Cursor.{Cursor}
@@ -22,10 +22,14 @@ spot tape at = record { place = at .place; bytes = take (at .end - at .place) (d
 abbrev pub past : ℕ → Spot → Spot
 past count here = record { place = here .place + count; bytes = drop count (here .bytes) }
 
--- An answer of the reader's code, with the spot at which its cursor then stands.
-abbrev pub told : {X E : Type 0} → List ℕ → Result X E → Cursor → Result (X × Spot) E
-told tape (Ok x) at = Ok (x, spot tape at)
-told tape (Err fault) at = Err fault
+-- A cursor stands on a tape: its place is not past its end, nor that past the tape's.
+abbrev pub On : List ℕ → Cursor → Type 0
+On tape at = (at .place ≤ at .end) × (at .end ≤ length tape)
+
+-- An answer of the reader's code, with the spot of the cursor that it gives.
+abbrev pub told : {X E : Type 0} → List ℕ → Result (X × Cursor) E → Result (X × Spot) E
+told tape (Ok x) = Ok (x .0, spot tape (x .1))
+told tape (Err fault) = Err fault
 
 -- What is read next, unless what came before is at fault.
 abbrev pub and-then : {X Y E : Type 0} → Result (X × Spot) E → (X → Spot → Result Y E) → Result Y E

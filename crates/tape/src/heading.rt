@@ -9,9 +9,8 @@ use crate::kind::StoreByNumber;
 use crate::kind::StoreKind;
 use crate::reader::next_number;
 ghost use mathlib.Core.Path.{_≡_};
-ghost use Prim.Native.Nat.{_≤_};
-ghost use lib.ListN.{length};
-ghost use Rattle.tape.specs.Spots.{spot, told};
+ghost use Rattle.std.specs.Vec.{made};
+ghost use Rattle.tape.specs.Spots.{spot, On, told};
 ghost use Rattle.tape.specs.Headings.{fits-store, kind-at, words-at, heading-at};
 
 #[derive(Clone, Copy)]
@@ -33,51 +32,50 @@ fn is_fit(store: StoreKind, words: u32) -> bool
     words >= 1 && words <= store.most_words()
 }
 
-// The kind whose number stands where the cursor stands.
-fn next_kind<K: Kind>(tape: &[u8], at: &mut Cursor) -> Result<K, HeadingFault>
-    requires { ⌜ now at .end ≤ length (now tape) ⌝ }
-    ensures value { λ r. ⌜ told (now (tape .entry)) r (now (at .exit)) ≡ kind-at numbered (spot (now (tape .entry)) (now (at .entry))) ⌝ }
-    ensures end { λ _. ⌜ now (at .exit) .end ≡ now (at .entry) .end ⌝ }
+// The kind whose number stands where the cursor stands, and the cursor behind it.
+fn next_kind<K: Kind>(tape: &[u8], at: Cursor) -> Result<(K, Cursor), HeadingFault>
+    requires { ⌜ On (now tape) at ⌝ }
+    ensures value { λ r. ⌜ told (now (tape .entry)) r ≡ kind-at numbered (spot (now (tape .entry)) at) ⌝ }
+    ensures stands { λ r. ⌜ made r (λ x. On (now (tape .entry)) (x .1)) ⌝ }
 {
-    let place = at.place;
-    let number = next_number(tape, at)?;
+    let (number, after) = next_number(tape, at)?;
     match K::from_number(number) {
-        Some(kind) => Ok(kind),
-        None => Err(HeadingFault::Kind { place }),
+        Some(kind) => Ok((kind, after)),
+        None => Err(HeadingFault::Kind { place: at.place }),
     }
 }
 
-// The number of words where the cursor stands, for a book in such a store.
-fn next_words(store: StoreKind, tape: &[u8], at: &mut Cursor) -> Result<u32, HeadingFault>
-    requires { ⌜ now at .end ≤ length (now tape) ⌝ }
-    ensures value { λ r. ⌜ told (now (tape .entry)) r (now (at .exit)) ≡ words-at store (spot (now (tape .entry)) (now (at .entry))) ⌝ }
-    ensures end { λ _. ⌜ now (at .exit) .end ≡ now (at .entry) .end ⌝ }
+// The number of words where the cursor stands, for a book in such a store, and the cursor behind it.
+fn next_words(store: StoreKind, tape: &[u8], at: Cursor) -> Result<(u32, Cursor), HeadingFault>
+    requires { ⌜ On (now tape) at ⌝ }
+    ensures value { λ r. ⌜ told (now (tape .entry)) r ≡ words-at store (spot (now (tape .entry)) at) ⌝ }
+    ensures stands { λ r. ⌜ made r (λ x. On (now (tape .entry)) (x .1)) ⌝ }
 {
-    let place = at.place;
-    let words = next_number(tape, at)?;
+    let (words, after) = next_number(tape, at)?;
     if is_fit(store, words) {
-        Ok(words)
+        Ok((words, after))
     } else {
-        Err(HeadingFault::Words { place })
+        Err(HeadingFault::Words { place: at.place })
     }
 }
 
-// The heading where the cursor stands, which then stands behind it.
-pub(crate) fn next_heading(tape: &[u8], at: &mut Cursor) -> Result<Heading, HeadingFault>
-    requires { ⌜ now at .end ≤ length (now tape) ⌝ }
-    ensures value { λ r. ⌜ told (now (tape .entry)) r (now (at .exit)) ≡ heading-at (spot (now (tape .entry)) (now (at .entry))) ⌝ }
-    ensures end { λ _. ⌜ now (at .exit) .end ≡ now (at .entry) .end ⌝ }
+// The heading where the cursor stands, and the cursor behind it.
+pub(crate) fn next_heading(tape: &[u8], at: Cursor) -> Result<(Heading, Cursor), HeadingFault>
+    requires { ⌜ On (now tape) at ⌝ }
+    ensures value { λ r. ⌜ told (now (tape .entry)) r ≡ heading-at (spot (now (tape .entry)) at) ⌝ }
+    ensures stands { λ r. ⌜ made r (λ x. On (now (tape .entry)) (x .1)) ⌝ }
 {
-    let manager = next_kind(tape, at)?;
-    let store = next_kind(tape, at)?;
-    let words = next_words(store, tape, at)?;
-    let commit = next_number(tape, at)?;
-    let rank = next_number(tape, at)?;
-    Ok(Heading {
+    let (manager, at) = next_kind(tape, at)?;
+    let (store, at) = next_kind(tape, at)?;
+    let (words, at) = next_words(store, tape, at)?;
+    let (commit, at) = next_number(tape, at)?;
+    let (rank, at) = next_number(tape, at)?;
+    let heading = Heading {
         manager,
         store,
         words,
         commit,
         rank,
-    })
+    };
+    Ok((heading, at))
 }

@@ -8,8 +8,9 @@ use crate::reader::next_bytes;
 use crate::reader::next_number;
 ghost use mathlib.Core.Path.{_≡_};
 ghost use Prim.Native.Nat.{_≤_, _<_};
+ghost use Rattle.std.specs.Vec.{made};
 ghost use lib.ListN.{length};
-ghost use Rattle.tape.specs.Spots.{spot};
+ghost use Rattle.tape.specs.Spots.{spot, On};
 ghost use Rattle.tape.specs.Items.{printable, printable-front, remark-length, told-item, remark-of, remark-at, fields-at, item-at};
 
 // The most bytes that a remark may have.
@@ -55,16 +56,16 @@ fn count_printable(bytes: &[u8]) -> usize
     bytes.len()
 }
 
-// The remark of `len` bytes where the cursor stands, which then stands behind it; `place` is where the length stands.
+// The remark of `len` bytes where the cursor stands, and the cursor behind it; `place` is where the length stands.
 fn remark_of<'a>(
     place: usize,
     len: u32,
     tape: &'a [u8],
-    at: &mut Cursor,
-) -> Result<Item<'a>, ItemFault>
-    requires { ⌜ now at .end ≤ length (now tape) ⌝ }
-    ensures value { λ r. ⌜ told-item (now (tape .entry)) r (now (at .exit)) ≡ remark-of place len (spot (now (tape .entry)) (now (at .entry))) ⌝ }
-    ensures end { λ _. ⌜ now (at .exit) .end ≡ now (at .entry) .end ⌝ }
+    at: Cursor,
+) -> Result<(Item<'a>, Cursor), ItemFault>
+    requires { ⌜ On (now tape) at ⌝ }
+    ensures value { λ r. ⌜ told-item (now (tape .entry)) r ≡ remark-of place len (spot (now (tape .entry)) at) ⌝ }
+    ensures stands { λ r. ⌜ made r (λ x. On (now (tape .entry)) (x .1)) ⌝ }
 {
     if !is_remark_length(len) {
         return Err(ItemFault::Length { place });
@@ -83,77 +84,80 @@ fn remark_of<'a>(
             place: at.place + good,
         });
     }
-    at.pass(len);
-    Ok(Item::Remark(bytes))
+    Ok((Item::Remark(bytes), at.ahead(len)))
 }
 
-// The remark whose length stands where the cursor stands.
-fn next_remark<'a>(tape: &'a [u8], at: &mut Cursor) -> Result<Item<'a>, ItemFault>
-    requires { ⌜ now at .end ≤ length (now tape) ⌝ }
-    ensures value { λ r. ⌜ told-item (now (tape .entry)) r (now (at .exit)) ≡ remark-at (spot (now (tape .entry)) (now (at .entry))) ⌝ }
-    ensures end { λ _. ⌜ now (at .exit) .end ≡ now (at .entry) .end ⌝ }
+// The remark whose length stands where the cursor stands, and the cursor behind it.
+fn next_remark<'a>(tape: &'a [u8], at: Cursor) -> Result<(Item<'a>, Cursor), ItemFault>
+    requires { ⌜ On (now tape) at ⌝ }
+    ensures value { λ r. ⌜ told-item (now (tape .entry)) r ≡ remark-at (spot (now (tape .entry)) at) ⌝ }
+    ensures stands { λ r. ⌜ made r (λ x. On (now (tape .entry)) (x .1)) ⌝ }
 {
-    let place = at.place;
-    let len = next_number(tape, at)?;
-    remark_of(place, len, tape, at)
+    let (len, after) = next_number(tape, at)?;
+    remark_of(at.place, len, tape, after)
 }
 
-// The item of a kind whose fields begin where the cursor stands.
-fn next_fields<'a>(kind: ItemKind, tape: &'a [u8], at: &mut Cursor) -> Result<Item<'a>, ItemFault>
-    requires { ⌜ now at .end ≤ length (now tape) ⌝ }
-    ensures value { λ r. ⌜ told-item (now (tape .entry)) r (now (at .exit)) ≡ fields-at kind (spot (now (tape .entry)) (now (at .entry))) ⌝ }
-    ensures end { λ _. ⌜ now (at .exit) .end ≡ now (at .entry) .end ⌝ }
+// The item of a kind whose fields begin where the cursor stands, and the cursor behind it.
+fn next_fields<'a>(
+    kind: ItemKind,
+    tape: &'a [u8],
+    at: Cursor,
+) -> Result<(Item<'a>, Cursor), ItemFault>
+    requires { ⌜ On (now tape) at ⌝ }
+    ensures value { λ r. ⌜ told-item (now (tape .entry)) r ≡ fields-at kind (spot (now (tape .entry)) at) ⌝ }
+    ensures stands { λ r. ⌜ made r (λ x. On (now (tape .entry)) (x .1)) ⌝ }
 {
     match kind {
         ItemKind::Start => {
-            let job = next_number(tape, at)?;
-            Ok(Item::Start { job })
+            let (job, at) = next_number(tape, at)?;
+            Ok((Item::Start { job }, at))
         }
         ItemKind::Read => {
-            let job = next_number(tape, at)?;
-            let word = next_number(tape, at)?;
-            Ok(Item::Read { job, word })
+            let (job, at) = next_number(tape, at)?;
+            let (word, at) = next_number(tape, at)?;
+            Ok((Item::Read { job, word }, at))
         }
         ItemKind::Write => {
-            let job = next_number(tape, at)?;
-            let word = next_number(tape, at)?;
-            let value = next_number(tape, at)?;
-            Ok(Item::Write { job, word, value })
+            let (job, at) = next_number(tape, at)?;
+            let (word, at) = next_number(tape, at)?;
+            let (value, at) = next_number(tape, at)?;
+            Ok((Item::Write { job, word, value }, at))
         }
         ItemKind::Seal => {
-            let job = next_number(tape, at)?;
-            Ok(Item::Seal { job })
+            let (job, at) = next_number(tape, at)?;
+            Ok((Item::Seal { job }, at))
         }
         ItemKind::Put => {
-            let job = next_number(tape, at)?;
-            Ok(Item::Put { job })
+            let (job, at) = next_number(tape, at)?;
+            Ok((Item::Put { job }, at))
         }
         ItemKind::Quit => {
-            let job = next_number(tape, at)?;
-            Ok(Item::Quit { job })
+            let (job, at) = next_number(tape, at)?;
+            Ok((Item::Quit { job }, at))
         }
         ItemKind::Look => {
-            let job = next_number(tape, at)?;
-            Ok(Item::Look { job })
+            let (job, at) = next_number(tape, at)?;
+            Ok((Item::Look { job }, at))
         }
         ItemKind::Remark => next_remark(tape, at),
     }
 }
 
-// The item where the cursor stands, which then stands behind it.
-pub(crate) fn next_item<'a>(tape: &'a [u8], at: &mut Cursor) -> Result<Item<'a>, ItemFault>
-    requires { ⌜ now at .end ≤ length (now tape) ⌝ }
-    ensures value { λ r. ⌜ told-item (now (tape .entry)) r (now (at .exit)) ≡ item-at (spot (now (tape .entry)) (now (at .entry))) ⌝ }
-    ensures end { λ _. ⌜ now (at .exit) .end ≡ now (at .entry) .end ⌝ }
+// The item where the cursor stands, and the cursor behind it.
+pub(crate) fn next_item<'a>(tape: &'a [u8], at: Cursor) -> Result<(Item<'a>, Cursor), ItemFault>
+    requires { ⌜ On (now tape) at ⌝ }
+    ensures value { λ r. ⌜ told-item (now (tape .entry)) r ≡ item-at (spot (now (tape .entry)) at) ⌝ }
+    ensures stands { λ r. ⌜ made r (λ x. On (now (tape .entry)) (x .1)) ⌝ }
 {
-    match &tape[at.place..at.end] {
-        [] => Err(ItemFault::Cut { place: at.place }),
+    let Cursor { place, end } = at;
+    match &tape[place..end] {
+        [] => Err(ItemFault::Cut { place }),
         [code, rest @ ..] => {
             let Some(kind) = ItemKind::from_code(*code) else {
-                return Err(ItemFault::Code { place: at.place });
+                return Err(ItemFault::Code { place });
             };
-            at.place = at.end - rest.len();
-            next_fields(kind, tape, at)
+            let place = end - rest.len();
+            next_fields(kind, tape, Cursor { place, end })
         }
     }
 }

@@ -4,20 +4,24 @@ use tape_number::fault::NumberFault;
 use tape_number::number::decode;
 ghost use mathlib.Core.Path.{_≡_};
 ghost use Prim.Native.Nat.{ℕ, _+_, _^_, _≤_, _<_};
+ghost use Rattle.std.specs.Vec.{made};
 ghost use lib.ListN.{length, take};
 ghost use mathlib.Core.List.{List};
 ghost use Rattle.tape_number.specs.Numbers.{number-place};
 ghost use Rattle.tape.specs.Faults.{shifted};
-ghost use Rattle.tape.specs.Spots.{spot, past, told, number-at};
+ghost use Rattle.tape.specs.Spots.{spot, past, On, told, number-at};
 
 impl Cursor {
-    // Goes on by `count` bytes.
-    pub(crate) fn pass(&mut self, count: usize)
-        requires { ⌜ now self .place + count ≤ now self .end ⌝ ∗ ⌜ now self .end < 2 ^ 64 ⌝ }
-        ensures moved { λ _. ⌜ ((tape : List ℕ) → spot tape (now (self .exit)) ≡ past count (spot tape (now (self .entry)))) ⌝ }
-        ensures end { λ _. ⌜ now (self .exit) .end ≡ now (self .entry) .end ⌝ }
+    // The cursor `count` bytes on.
+    pub(crate) fn ahead(self, count: usize) -> Cursor
+        requires { ⌜ self .place + count ≤ self .end ⌝ }
+        ensures moved { λ r. ⌜ ((tape : List ℕ) → spot tape r ≡ past count (spot tape self)) ⌝ }
+        ensures within { λ r. ⌜ (r .place ≤ r .end) × (r .end ≡ self .end) ⌝ }
     {
-        self.place += count;
+        Cursor {
+            place: self.place + count,
+            end: self.end,
+        }
     }
 }
 
@@ -34,34 +38,33 @@ fn shift(fault: NumberFault, before: usize) -> NumberFault
 }
 
 // How many bytes there are from the cursor to its end.
-pub(crate) fn bytes_left(tape: &[u8], at: &Cursor) -> usize
-    requires { ⌜ now at .end ≤ length (now tape) ⌝ }
-    ensures value { λ r. ⌜ r ≡ length (spot (now (tape .entry)) (now (at .entry)) .bytes) ⌝ }
-    ensures sum { λ r. ⌜ now (at .entry) .place + r ≡ now (at .entry) .end ⌝ }
+pub(crate) fn bytes_left(tape: &[u8], at: Cursor) -> usize
+    requires { ⌜ On (now tape) at ⌝ }
+    ensures value { λ r. ⌜ r ≡ length (spot (now (tape .entry)) at .bytes) ⌝ }
+    ensures sum { λ r. ⌜ at .place + r ≡ at .end ⌝ }
 {
     at.end - at.place
 }
 
 // The next `count` bytes.
-pub(crate) fn next_bytes<'a>(tape: &'a [u8], at: &Cursor, count: usize) -> &'a [u8]
-    requires { ⌜ now at .end ≤ length (now tape) ⌝ ∗ ⌜ now at .place + count ≤ now at .end ⌝ }
-    ensures value { λ r. ⌜ now r ≡ take count (spot (now (tape .entry)) (now (at .entry)) .bytes) ⌝ }
+pub(crate) fn next_bytes<'a>(tape: &'a [u8], at: Cursor, count: usize) -> &'a [u8]
+    requires { ⌜ On (now tape) at ⌝ ∗ ⌜ at .place + count ≤ at .end ⌝ }
+    ensures value { λ r. ⌜ now r ≡ take count (spot (now (tape .entry)) at .bytes) ⌝ }
     ensures len { λ r. ⌜ length (now r) ≡ count ⌝ }
 {
-    &tape[at.place..at.place + count]
+    let place = at.place;
+    &tape[place..place + count]
 }
 
-// The number where the cursor stands, which then stands behind it.
-pub(crate) fn next_number(tape: &[u8], at: &mut Cursor) -> Result<u32, NumberFault>
-    requires { ⌜ now at .end ≤ length (now tape) ⌝ }
-    ensures value { λ r. ⌜ told (now (tape .entry)) r (now (at .exit)) ≡ number-at (spot (now (tape .entry)) (now (at .entry))) ⌝ }
-    ensures end { λ _. ⌜ now (at .exit) .end ≡ now (at .entry) .end ⌝ }
+// The number where the cursor stands, and the cursor behind it.
+pub(crate) fn next_number(tape: &[u8], at: Cursor) -> Result<(u32, Cursor), NumberFault>
+    requires { ⌜ On (now tape) at ⌝ }
+    ensures value { λ r. ⌜ told (now (tape .entry)) r ≡ number-at (spot (now (tape .entry)) at) ⌝ }
+    ensures stands { λ r. ⌜ made r (λ x. On (now (tape .entry)) (x .1)) ⌝ }
 {
-    match decode(&tape[at.place..at.end]) {
-        Ok((value, taken)) => {
-            at.pass(taken);
-            Ok(value)
-        }
-        Err(fault) => Err(shift(fault, at.place)),
+    let Cursor { place, end } = at;
+    match decode(&tape[place..end]) {
+        Ok((value, taken)) => Ok((value, at.ahead(taken))),
+        Err(fault) => Err(shift(fault, place)),
     }
 }

@@ -20,7 +20,7 @@ ghost use Rattle.std.specs.Results.{errPart};
 ghost use Rattle.std.specs.Vec.{made};
 ghost use Rattle.std.specs.declared.option.Option.the-variants.{None};
 ghost use Rattle.tape.specs.Faults.{most-bytes};
-ghost use Rattle.tape.specs.Spots.{spot};
+ghost use Rattle.tape.specs.Spots.{spot, On};
 ghost use Rattle.tape.specs.Items.{said};
 ghost use Rattle.tape.specs.Laws.{One-tape};
 ghost use Rattle.tape.specs.Tapes.{items-at, in-program, reading, stopped, tape-says, faulty-item};
@@ -48,13 +48,14 @@ fn read_items<'a>(
     mut at: Cursor,
     items: &mut Vec<Item<'a>>,
 ) -> Result<(), ProgramFault>
-    requires { ⌜ at .end ≤ length (now bytes) ⌝ ∗ ⌜ vec-len (now items) + (at .end - at .place) ≤ vec-cap (now items) ⌝ }
+    requires { ⌜ On (now bytes) at ⌝ ∗ ⌜ vec-len (now items) + (at .end - at .place) ≤ vec-cap (now items) ⌝ }
     ensures items { λ _. ⌜ map said (vec-items (now (items .exit))) ≡ map said (vec-items (now (items .entry))) ++ items-at (spot (now (bytes .entry)) at) .items ⌝ }
     ensures fault { λ r. ⌜ errPart r ≡ in-program (items-at (spot (now (bytes .entry)) at) .fault) ⌝ }
 {
     while at.place < at.end {
-        let item = next_item(bytes, &mut at)?;
+        let (item, after) = next_item(bytes, at)?;
         items.push_reserved(item);
+        at = after;
     }
     Ok(())
 }
@@ -65,16 +66,17 @@ impl<'a> Tape<'a> {
         requires headless { ⌜ now self .heading ≡ None ⌝ }
         requires blank { ⌜ (vec-items (now self .items) ≡ []) × (vec-len (now self .items) ≡ 0) ⌝ }
         requires room { ⌜ (length (now bytes) ≤ most-bytes → length (now bytes) ≤ vec-cap (now self .items)) ⌝ }
-        ensures { λ r. ⌜ stopped (now (self .exit)) (errPart r) ≡ tape-says (now (bytes .entry)) ⌝ }
+        ensures says { λ r. ⌜ stopped (now (self .exit)) (errPart r) ≡ tape-says (now (bytes .entry)) ⌝ }
+        ensures kept { λ _. ⌜ now (self .exit) .fault ≡ now (self .entry) .fault ⌝ }
     {
         if is_too_long(bytes) {
             return Err(ProgramFault::TooLong);
         }
-        let mut at = Cursor {
+        let start = Cursor {
             place: 0,
             end: bytes.len(),
         };
-        let heading = next_heading(bytes, &mut at)?;
+        let (heading, at) = next_heading(bytes, start)?;
         self.heading = Some(heading);
         read_items(bytes, at, &mut self.items)
     }

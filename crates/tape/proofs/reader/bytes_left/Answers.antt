@@ -5,5 +5,5 @@ use Rattle.tape.proofs.reader.bytes_left.Needs as need
 
 pub returns : need.returns
 returns c =
-    let at = c .args .at .now in
-    record { value = sym (length-between (c .args .tape .now) (at .place) (at .end) (c .pre)); sum = omega (arith, at .ordered) }
+    let at = c .args .at in
+    record { value = sym (length-between (c .args .tape .now) (at .place) (at .end) (c .pre .1)); sum = omega (arith, c .pre .0) }

@@ -17,7 +17,7 @@ pub returns-in-Break-item : need.returns-in-Break-item
 returns-in-Break-item c =
     let l = c .loop-at in
     let f = typed-bytes (c .args .bytes .now) (c .typed .bytes) in
-    let e = turn-fault (c .args .bytes .now) (l .at) f (l .inv .0) (c .in-Break-item .field-0 .0) (c .loop-at-test .taken) (c .in-Break-item .ensures tt .value) in
+    let e = turn-fault (c .args .bytes .now) (l .at) f (l .inv .0 .1) (c .in-Break-item .field-0 .0) (c .loop-at-test .taken) (c .in-Break-item .ensures tt .value) in
     let p = err-from-errBy (c .from-residual .result) (c .from-residual .ensures .1) in
     record {
       items = sym (l .inv .2 ∙ ap (λ (r : ItemsRead). map said (vec-items (l .items)) ++ r .items) e ∙ append-nil _);
@@ -28,7 +28,7 @@ pub loop-at-less : need.loop-at-less
 loop-at-less c =
     let l = c .loop-at in
     let f = typed-bytes (c .args .bytes .now) (c .typed .bytes) in
-    turn-item (c .args .bytes .now) (l .at) f (l .inv .0) _ (c .next-item .last .at) (c .loop-at-test .taken) (c .in-Continue-item .ensures tt .end) (c .in-Continue-item .ensures tt .value) .0
+    turn-item (c .args .bytes .now) (l .at) f (l .inv .0 .1) _ (c .in-Continue-item .after) (c .loop-at-test .taken) (c .in-Continue-item .ensures tt .stands .1) (c .in-Continue-item .ensures tt .value) .0
 
 -- An item put behind the others, and those that are still to come.
 one-more : (was now : List Item) (it : Item) (rest : List Said) → now ≡ was ++ it ∷ [] → map said was ++ (said it ∷ rest) ≡ map said now ++ rest
@@ -38,11 +38,10 @@ pub loop-at-again : need.loop-at-again
 loop-at-again c =
     let l = c .loop-at in
     let f = typed-bytes (c .args .bytes .now) (c .typed .bytes) in
-    let s = turn-item (c .args .bytes .now) (l .at) f (l .inv .0) _ (c .next-item .last .at) (c .loop-at-test .taken) (c .in-Continue-item .ensures tt .end) (c .in-Continue-item .ensures tt .value) in
-    let end = c .in-Continue-item .ensures tt .end in
+    let s = turn-item (c .args .bytes .now) (l .at) f (l .inv .0 .1) _ (c .in-Continue-item .after) (c .loop-at-test .taken) (c .in-Continue-item .ensures tt .stands .1) (c .in-Continue-item .ensures tt .value) in
     let len = c .push-reserved .ensures .len in
     let cap = c .push-reserved .ensures .capacity in (
-      omega (arith, l .inv .0),
+      c .in-Continue-item .ensures tt .stands,
       omega (arith, s .0, l .inv .1),
       l .inv .2 ∙ ap (λ (r : ItemsRead). map said (vec-items (l .items)) ++ r .items) (s .1)
           ∙ one-more (vec-items (l .items)) (vec-items (c .push-reserved .last .self)) (c .in-Continue-item .item) _ (c .push-reserved .ensures .items),
@@ -53,7 +52,7 @@ pub returns : need.returns
 returns c =
     let l = c .loop-at in
     let f = typed-bytes (c .args .bytes .now) (c .typed .bytes) in
-    let e = items-ended (c .args .bytes .now) (l .at) f (l .inv .0) (c .loop-at-test .left) in
+    let e = items-ended (c .args .bytes .now) (l .at) f (l .inv .0 .1) (c .loop-at-test .left) in
     record {
       items = sym (l .inv .2 ∙ ap (λ (r : ItemsRead). map said (vec-items (l .items)) ++ r .items) e ∙ append-nil _);
       fault = sym (ap in-program (l .inv .3 ∙ ap (λ (r : ItemsRead). r .fault) e));

@@ -8,4 +8,4 @@ pub returns-in-Break-items : need.returns-in-Break-items
 returns-in-Break-items c = record { says = made-from-err _ _ (c .from-residual .ensures .0); law = one-tape }
 
 pub returns : need.returns
-returns c = record { says = ap (stopped (c .fill .last .self)) (c .err-tape .ensures .value) ∙ c .fill .ensures; law = one-tape }
+returns c = record { says = ap (stopped (c .fill .last .self)) (c .err-tape .ensures .value) ∙ c .fill .ensures .says; law = one-tape }

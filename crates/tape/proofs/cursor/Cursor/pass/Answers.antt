@@ -1,8 +1,0 @@
-use mathlib.Core.Path.{refl, sym}
-use Rattle.tape.proofs.Steps.{spot-past}
-use Rattle.tape.proofs.cursor.Cursor.pass.Needs as need
-
-pub returns : need.returns
-returns c =
-    let at = c .args .self .now in
-    record { moved = λ tape. sym (spot-past tape (at .place) (at .end) (c .args .count) (c .pre .0)); end = refl }
