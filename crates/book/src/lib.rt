@@ -1,4 +1,6 @@
 // What all parts of the archive share: how long a book may be, and the refusals.
+#![tactic(auto)]
+
 ghost use Rattle.std.specs.Prelude.{◌≡◌};
 ghost use Rattle.book.specs.Lengths.{is_book_length};
 ghost use Rattle.book.specs.Refusals.{refusal_number};

@@ -1,4 +1,6 @@
 // What is listed of a tape: its heading in words, a line for each item, and how it ends.
+#![tactic(auto)]
+
 ghost use Rattle.std.specs.Prelude.{◌≡◌, ◌++◌, map, IfOk, Some, string_bytes, OnOk};
 ghost use Rattle.tape.specs.Items.{said};
 ghost use Rattle.tape.specs.Tapes.{reading, tape_says};
@@ -88,15 +90,16 @@ fn write_item(text: &mut String, item: Item) -> fmt::Result
     ensures { OnOk result (string_bytes text.new ≡ string_bytes text.old ++ item_text (said item.entry)) }
 {
     match item {
-        Item::Start { job } => write!(text, "start {job}"),
-        Item::Read { job, word } => write!(text, "read {job} {word}"),
-        Item::Write { job, word, value } => write!(text, "write {job} {word} {value}"),
-        Item::Seal { job } => write!(text, "seal {job}"),
-        Item::Put { job } => write!(text, "put {job}"),
-        Item::Quit { job } => write!(text, "quit {job}"),
-        Item::Look { job } => write!(text, "look {job}"),
-        Item::Remark(bytes) => write_remark(text, bytes),
+        Item::Start { job } => write!(text, "start {job}")?,
+        Item::Read { job, word } => write!(text, "read {job} {word}")?,
+        Item::Write { job, word, value } => write!(text, "write {job} {word} {value}")?,
+        Item::Seal { job } => write!(text, "seal {job}")?,
+        Item::Put { job } => write!(text, "put {job}")?,
+        Item::Quit { job } => write!(text, "quit {job}")?,
+        Item::Look { job } => write!(text, "look {job}")?,
+        Item::Remark(bytes) => write_remark(text, bytes)?,
     }
+    Ok(())
 }
 
 // Adds an item's line to `text`.

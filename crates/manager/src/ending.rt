@@ -6,7 +6,7 @@ use crate::{ContentionManager, JOBS};
 
 // Tells a manager that all eight jobs have ended: no rank is left, and the next number stays.
 pub fn end_all<M: ContentionManager>(manager: &mut M)
-    ensures { ranks manager.new ≡ no_ranks (ranks manager.old).next }
+    ensures { M.ranks manager.new ≡ no_ranks (M.ranks manager.old).next }
 {
     for job in 0..JOBS {
         manager.ended(job);

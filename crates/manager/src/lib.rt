@@ -1,4 +1,6 @@
 // Contention managers: which of two jobs yields where both want to write the same words.
+#![tactic(auto)]
+
 ghost use Rattle.std.specs.Prelude.{◌≡◌, Bool};
 ghost use Rattle.manager.specs.declared.event.Event.{Event};
 ghost use Rattle.manager.specs.declared.event.Event.TheVariants.{Began, Wrote};

@@ -35,7 +35,7 @@ impl<R: RankRule> Ranked<R> {
 impl<R: RankRule> ContentionManager for Ranked<R> {
     ghost ranks = { λ m. table_ranks m.table };
 
-    ghost gives = { λ m event. gives m.rule event };
+    ghost gives = { λ m event. R.gives m.rule event };
 
     ghost lawful = { first_of (Prim.search rules, Prim.grind (arith, Self.row.coded.inj)) };
 

@@ -1,4 +1,6 @@
 // Tables of cases for the stores and the contention managers.
+#![tactic(auto)]
+
 #[cfg(test)]
 mod tests {
     use book::Refusal;
@@ -120,7 +122,7 @@ mod tests {
         let bytes = inner.close().close().close();
         assert_eq!(rt;
             &*bytes,
-            &[0, 0, 0, 0, 0, 0, 0, 0, 0x9A, 0xBC, 0xDE, 0xF0, 0, 0, 0, 0]
+            [0, 0, 0, 0, 0, 0, 0, 0, 0x9A, 0xBC, 0xDE, 0xF0, 0, 0, 0, 0].as_slice()
         );
         Ok(())
     }

@@ -98,7 +98,7 @@ impl<'a> ByteStore<'a> {
 impl<'a> Store for ByteStore<'a> {
     ghost words = { λ s. words_of_bytes s.bytes.now };
 
-    ghost ground = { λ s. Lent s.bytes.ghost_name };
+    ghost footing = { λ s. Lent s.bytes.ghost_name };
 
     ghost opened = { λ s. ByteBook s.bytes.now };
 

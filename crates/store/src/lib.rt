@@ -1,4 +1,6 @@
 // Stores: where the words of a book are kept.
+#![tactic(auto)]
+
 ghost use Rattle.std.specs.Prelude.{◌≡◌, ℕ, List, length, slice_set};
 ghost use Rattle.store.specs.Grounds.{Ground};
 ghost use Rattle.store.specs.Words.{Book, reading, writing};
@@ -18,7 +20,7 @@ pub trait Store {
     ghost words: { Self → List ℕ };
 
     // What the store stands on, apart from the words. It never changes.
-    ghost ground: { Self → Ground };
+    ghost footing: { Self → Ground };
 
     // That the store was opened: what its opening gives, and what every write keeps.
     ghost opened: { Self → Type 0 };
@@ -37,6 +39,6 @@ pub trait Store {
     fn write(&mut self, word: usize, value: u32) -> Result<(), Refusal>
         ensures answer { result ≡ writing (words self.old) word }
         ensures after { words self.new ≡ slice_set (words self.old) word value }
-        ensures aside { ground self.new ≡ ground self.old }
+        ensures aside { footing self.new ≡ footing self.old }
         ensures stays { opened self.old → opened self.new };
 }

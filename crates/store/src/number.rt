@@ -54,7 +54,7 @@ impl<'a> NumberStore<'a> {
 impl<'a> Store for NumberStore<'a> {
     ghost words = { λ s. s.words.now };
 
-    ghost ground = { λ s. Lent s.words.ghost_name };
+    ghost footing = { λ s. Lent s.words.ghost_name };
 
     ghost opened = { λ s. Book s.words.now };
 

@@ -8,10 +8,10 @@ use book::Refusal;
 // Makes each of two words what the other was, and changes nothing else; refused, with nothing changed, where one of the
 // two is missing.
 pub fn swap_words<S: Store>(store: &mut S, a: usize, b: usize) -> Result<(), Refusal>
-    ensures answer { result ≡ swap_answer (words store.old) a b }
-    ensures after { words store.new ≡ swapped (words store.old) a b }
-    ensures aside { ground store.new ≡ ground store.old }
-    ensures stays { opened store.old → opened store.new }
+    ensures answer { result ≡ swap_answer (S.words store.old) a b }
+    ensures after { S.words store.new ≡ swapped (S.words store.old) a b }
+    ensures aside { S.footing store.new ≡ S.footing store.old }
+    ensures stays { S.opened store.old → S.opened store.new }
 {
     let first = store.read(a)?;
     let second = store.read(b)?;

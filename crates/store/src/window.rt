@@ -46,8 +46,8 @@ fn place_below(first: u32, count: u32, word: usize) -> Option<usize>
 impl<S: Store> Window<S> {
     // A store that means `count` words of the store below, from its word `first` on.
     pub fn open(store: S, first: u32, count: u32) -> Result<Window<S>, Unopened<S>>
-        ensures value { result ≡ opening (is_inside first count (length (words store))) BadWindow (record { store = store; first = first; count = count }) store }
-        ensures opens { IfOk result (λ s. is_inside s.first s.count (length (words s.store)) ≡ true) }
+        ensures value { result ≡ opening (is_inside first count (length (S.words store))) BadWindow (record { store = store; first = first; count = count }) store }
+        ensures opens { IfOk result (λ s. is_inside s.first s.count (length (S.words s.store)) ≡ true) }
     {
         if fits_within(first, count, store.len()) {
             Ok(Window {
@@ -77,11 +77,11 @@ impl<S: Store> Window<S> {
 }
 
 impl<S: Store> Store for Window<S> {
-    ghost words = { λ s. window s.first s.count (words s.store) };
+    ghost words = { λ s. window s.first s.count (S.words s.store) };
 
-    ghost ground = { λ s. around s.first s.count (words s.store) (S.Store.ground s.store) };
+    ghost footing = { λ s. around s.first s.count (S.words s.store) (S.Store.footing s.store) };
 
-    ghost opened = { λ s. (is_inside s.first s.count (length (words s.store)) ≡ true) × S.Store.opened s.store };
+    ghost opened = { λ s. (is_inside s.first s.count (length (S.words s.store)) ≡ true) × S.Store.opened s.store };
 
     fn len(&self) -> usize {
         count_within(self.first, self.count, self.store.len())

@@ -30,7 +30,7 @@ fn is_fit(store: StoreKind, words: u32) -> bool
 // The kind whose number stands where the cursor stands, and the cursor behind it.
 fn next_kind<K: Kind>(tape: &[u8], at: Cursor) -> Result<(K, Cursor), HeadingFault>
     requires { On tape.now at }
-    ensures value { told tape.now result ≡ kind_at numbered (spot tape.now at) }
+    ensures value { told tape.now result ≡ kind_at K.numbered (spot tape.now at) }
     ensures stands { IfOk result (λ x. On tape.now x.1) }
 {
     let (number, after) = next_number(tape, at)?;

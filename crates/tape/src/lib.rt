@@ -1,4 +1,6 @@
 // Tapes: how the archive's jobs are handed to it as bytes.
+#![tactic(auto)]
+
 ghost use Rattle.tape.specs.Figures.{NumberFigures};
 
 mod cursor;

@@ -1,4 +1,6 @@
 // Tapes, sound and damaged, with what is listed for each.
+#![tactic(auto)]
+
 #[cfg(test)]
 mod tests {
     use listing::list_bytes;

@@ -1,4 +1,6 @@
 // Lists the tape on standard input: its heading in words, a line for each item, and how it ends.
+#![tactic(auto)]
+
 use listing::list_bytes;
 use std::io::Read;
 use tape::refusal::MOST_BYTES;

@@ -38,15 +38,15 @@ seen first count done before below first' count' after below' fits same made =
     )
 
 -- The same of a window that was opened on a store.
-module _ {S : Type 0} (words : S → List ℕ) (ground : S → Ground) where
+module _ {S : Type 0} (words : S → List ℕ) (footing : S → Ground) where
   pub seen_below : (first count : ℕ) (done : List ℕ → List ℕ) (store : S) (opened after : Window S) →
       Ok opened ≡ opening (is_inside first count (length (words store))) BadWindow (record { store = store; first = first; count = count }) store →
-      around after.first after.count (words after.store) (ground after.store) ≡ around opened.first opened.count (words opened.store) (ground opened.store) →
+      around after.first after.count (words after.store) (footing after.store) ≡ around opened.first opened.count (words opened.store) (footing opened.store) →
       window after.first after.count (words after.store) ≡ done (window opened.first opened.count (words opened.store)) →
-      (words after.store ≡ in_window first count done (words store)) × (ground after.store ≡ ground store)
+      (words after.store ≡ in_window first count done (words store)) × (footing after.store ≡ footing store)
   seen_below first count done store opened after was same made =
       let asked : Window S = record { store = store; first = first; count = count } in
       let is = opened_is (is_inside first count (length (words store))) BadWindow asked opened store was in
-      seen first count done (words store) (ground store) after.first after.count (words after.store) (ground after.store) is.0
-      (same ∙ ap (λ (x : Window S). around x.first x.count (words x.store) (ground x.store)) is.1)
+      seen first count done (words store) (footing store) after.first after.count (words after.store) (footing after.store) is.0
+      (same ∙ ap (λ (x : Window S). around x.first x.count (words x.store) (footing x.store)) is.1)
       (made ∙ ap (λ (x : Window S). done (window x.first x.count (words x.store))) is.1)

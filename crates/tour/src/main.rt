@@ -1,4 +1,5 @@
 // Shows the stores and the contention managers at work: one story told to each store, another to each manager.
+#![tactic(auto)]
 
 mod manager_story;
 mod store_story;

@@ -49,8 +49,8 @@ impl<M: ContentionManager> fmt::Display for RankLine<'_, M> {
 
 // Tells a manager something, or asks it; the answer to a question is yes or no.
 fn tell<M: ContentionManager>(manager: &mut M, step: ManagerStep) -> Option<bool>
-    ensures answer { result ≡ answer_of step (ranks manager.old) }
-    ensures after { ranks manager.new ≡ ranks_after (gives manager.old) step (ranks manager.old) }
+    ensures answer { result ≡ answer_of step (M.ranks manager.old) }
+    ensures after { M.ranks manager.new ≡ ranks_after (M.gives manager.old) step (M.ranks manager.old) }
 {
     match step {
         ManagerStep::Began { job } => manager.began(job),
@@ -67,7 +67,7 @@ fn show_step<M: ContentionManager>(
     manager: &mut M,
     step: ManagerStep,
 ) -> io::Result<()>
-    ensures { ranks manager.new ≡ ranks_after (gives manager.old) step (ranks manager.old) }
+    ensures { M.ranks manager.new ≡ ranks_after (M.gives manager.old) step (M.ranks manager.old) }
 {
     match tell(manager, step) {
         Some(true) => println!(rt; "  {step}: yes"),
@@ -85,7 +85,7 @@ fn show_story<M: ContentionManager>(
     manager: &mut M,
     story: &[ManagerStep],
 ) -> io::Result<()>
-    ensures { OnOk result ((last : Ranks) × ToldThrough story.now (ranks manager.old) last × (ranks manager.new ≡ no_ranks last.next)) }
+    ensures { OnOk result ((last : Ranks) × ToldThrough story.now (M.ranks manager.old) last × (M.ranks manager.new ≡ no_ranks last.next)) }
 {
     for step in story {
         show_step(rt, manager, *step)?;

@@ -62,9 +62,9 @@ fn answer_done(done: Result<(), Refusal>) -> StoreAnswer
 
 // Does one step.
 fn perform<S: Store>(store: &mut S, step: StoreStep) -> StoreAnswer
-    ensures answer { result ≡ answer_to step (words store.old) }
-    ensures after { words store.new ≡ words_after step (words store.old) }
-    ensures aside { ground store.new ≡ ground store.old }
+    ensures answer { result ≡ answer_to step (S.words store.old) }
+    ensures after { S.words store.new ≡ words_after step (S.words store.old) }
+    ensures aside { S.footing store.new ≡ S.footing store.old }
 {
     match step {
         StoreStep::Read { word } => match store.read(word) {
@@ -78,8 +78,8 @@ fn perform<S: Store>(store: &mut S, step: StoreStep) -> StoreAnswer
 
 // Prints how many words a store has, does some steps, and prints each with its answer.
 fn show_steps<S: Store>(rt: &impl Print, store: &mut S, steps: &[StoreStep]) -> io::Result<()>
-    ensures after { OnOk result (words store.new ≡ words_after_all steps.now (words store.old)) }
-    ensures aside { ground store.new ≡ ground store.old }
+    ensures after { OnOk result (S.words store.new ≡ words_after_all steps.now (S.words store.old)) }
+    ensures aside { S.footing store.new ≡ S.footing store.old }
 {
     let count = store.len();
     println!(rt; "  {count} words")?;
@@ -104,8 +104,8 @@ fn show_window<S: Store + Drop>(
     count: u32,
     steps: &[StoreStep],
 ) -> io::Result<S>
-    ensures after { IfOk result (λ s. words s ≡ in_window first count (words_after_all steps.now) (words store)) }
-    ensures aside { IfOk result (λ s. ground s ≡ ground store) }
+    ensures after { IfOk result (λ s. S.words s ≡ in_window first count (words_after_all steps.now) (S.words store)) }
+    ensures aside { IfOk result (λ s. S.footing s ≡ S.footing store) }
 {
     println!(rt; "window of {count} words from word {first} on")?;
     match Window::open(store, first, count) {
@@ -122,8 +122,8 @@ fn show_window<S: Store + Drop>(
 
 // Does some steps on a window of a window of a store, and gives the store back.
 fn show_nested<S: Store + Drop>(rt: &impl Print, store: S, steps: &[StoreStep]) -> io::Result<S>
-    ensures after { IfOk result (λ s. words s ≡ in_window 1 4 (in_window 0 2 (words_after_all steps.now)) (words store)) }
-    ensures aside { IfOk result (λ s. ground s ≡ ground store) }
+    ensures after { IfOk result (λ s. S.words s ≡ in_window 1 4 (in_window 0 2 (words_after_all steps.now)) (S.words store)) }
+    ensures aside { IfOk result (λ s. S.footing s ≡ S.footing store) }
 {
     println!(rt; "window of 4 words from word 1 on, and in it:")?;
     match Window::open(store, 1, 4) {
@@ -163,8 +163,8 @@ fn show_with_windows<S: Store + Drop>(
     mut store: S,
     steps: &[StoreStep],
 ) -> io::Result<S>
-    ensures after { IfOk result (λ s. words s ≡ with_windows (words_after_all steps.now) (words store)) }
-    ensures aside { IfOk result (λ s. ground s ≡ ground store) }
+    ensures after { IfOk result (λ s. S.words s ≡ with_windows (words_after_all steps.now) (S.words store)) }
+    ensures aside { IfOk result (λ s. S.footing s ≡ S.footing store) }
 {
     show_steps(rt, &mut store, steps)?;
     let store = show_window(rt, store, 2, 3, steps)?;
@@ -178,16 +178,16 @@ fn ask_for_window<S: Store + Drop>(
     first: u32,
     count: u32,
 ) -> io::Result<S>
-    ensures after { IfOk result (λ s. words s ≡ words store) }
-    ensures aside { IfOk result (λ s. ground s ≡ ground store) }
+    ensures after { IfOk result (λ s. S.words s ≡ S.words store) }
+    ensures aside { IfOk result (λ s. S.footing s ≡ S.footing store) }
 {
     show_window(rt, store, first, count, &[])
 }
 
 // Asks for windows that are empty or reach outside a store of six words.
 fn show_bad_windows<S: Store + Drop>(rt: &impl Print, store: S) -> io::Result<S>
-    ensures after { IfOk result (λ s. words s ≡ words store) }
-    ensures aside { IfOk result (λ s. ground s ≡ ground store) }
+    ensures after { IfOk result (λ s. S.words s ≡ S.words store) }
+    ensures aside { IfOk result (λ s. S.footing s ≡ S.footing store) }
 {
     let store = ask_for_window(rt, store, 0, 0)?;
     let store = ask_for_window(rt, store, 5, 2)?;

@@ -10,4 +10,4 @@ joined was a b c one two three e f g = g ∙ ap (λ x. x ++ c) (f ∙ ap (λ x. 
 pub returns : goal.returns
 returns c =
     joined (string_bytes c.args.text.now) (decimal c.args.number ++ (32 ∷ [])) (item_text (said c.args.item)) (10 ∷ []) _ _ _
-    c.in-ok-write.ensures.bytes c.in-ok-write-item.ensures c.in-ok-writeln.ensures.bytes
+    c.in_ok-write.ensures.bytes c.in_ok-write_item.ensures c.in_ok-writeln.ensures.bytes

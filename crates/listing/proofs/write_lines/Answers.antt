@@ -11,7 +11,7 @@ lines_of n items = item_lines n (map said items)
 pub loop-i-preserved : goal.loop-i-preserved
 loop-i-preserved c =
     let i = c.loop-i.i in
-    one_more (lines_of (i + 1)) (lines_of ((i + 1) + 1)) _ c.args.items.now _ (string_bytes c.loop-i.text) _ _ i c.loop-i-test.true refl c.loop-i.invariant c.in-ok-write-line.ensures
+    one_more (lines_of (i + 1)) (lines_of ((i + 1) + 1)) _ c.args.items.now _ (string_bytes c.loop-i.text) _ _ i c.loop-i-test.true refl c.loop-i.invariant c.in_ok-write_line.ensures
 
 pub returns : goal.returns
 returns c = no_more (lines_of (c.loop-i.i + 1)) c.args.items.now _ _ c.loop-i.i c.loop-i-test.false refl c.loop-i.invariant

@@ -9,7 +9,7 @@ use Rattle.store.proofs.byte.swap_bytes.Goals as goal
 pub returns : goal.returns
 returns c =
     let bytes = c.args.bytes.now in
-    let last = c.swap-lent.new.bytes in
+    let last = c.swap_lent.new.bytes in
     let test : is_byte_length (length bytes) ≡ true = search rules in
     let both = and_parts (eqb (length bytes % 4) 0) (is_book_length (length bytes / 4)) test in
     let fours = eqb-true (length bytes % 4) 0 both.0 in
@@ -18,5 +18,5 @@ returns c =
     let back = bytes_back last fit (ap (λ n. n % 4) long ∙ fours) in
     record {
       answer = search rules;
-      after = sym back ∙ ap bytes_of_words c.swap-lent.ensures.after ∙ sym (cond-true (is_byte_length (length bytes)) (bytes_of_words (swapped (words_of_bytes bytes) c.args.a c.args.b)) bytes test);
+      after = sym back ∙ ap bytes_of_words c.swap_lent.ensures.after ∙ sym (cond-true (is_byte_length (length bytes)) (bytes_of_words (swapped (words_of_bytes bytes) c.args.a c.args.b)) bytes test);
     }

@@ -2,9 +2,9 @@ use Rattle.std.proofs.Common.{rules}
 use Rattle.tape.specs.Items.{remark_at}
 use Rattle.tape.proofs.item.next_remark.Goals as goal
 
-pub returns-in-err-len : goal.returns-in-err-len
+pub returns-in_err-len : goal.returns-in_err-len
 unfolding remark_at
-returns-in-err-len c = search rules
+returns-in_err-len c = search rules
 
 pub returns : goal.returns
 unfolding remark_at

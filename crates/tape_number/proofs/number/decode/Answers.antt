@@ -13,13 +13,13 @@ whole : (bytes : List ℕ) (i w a : ℕ) (said : Result (ℕ × ℕ) NumberFault
     → read_groups i (get_or bytes i 0 ∷ drop (i + 1) bytes) ≡ said → read_groups 0 bytes ≡ above w a said
 whole bytes i w a said h inv e = inv ∙ ap (above w a) (at_drop_more (read_groups i) bytes i 0 h ∙ e)
 
-pub returns-then-is-over-top : goal.returns-then-is-over-top
+pub returns-then-is_over_top : goal.returns-then-is_over_top
 unfolding read_number
-returns-then-is-over-top c =
+returns-then-is_over_top c =
     let l = c.loop-i in
     let bytes = c.args.bytes.now in
     record {
-      value = sym (whole bytes l.i l.weight l.value _ c.loop-i-test.true l.invariant.3 (read_high l.i _ _ (sym c.if-is-over-top.ensures)));
+      value = sym (whole bytes l.i l.weight l.value _ c.loop-i-test.true l.invariant.3 (read_high l.i _ _ (sym c.if-is_over_top.ensures)));
       within = omega arith;
       law = one_form;
     }
@@ -28,23 +28,23 @@ returns-then-is-over-top c =
 group-fits : (i w a b d : ℕ) → i ≤ 4 → w ≡ 128 ^ i → a < w → d ≡ b % 128 → false ≡ over_top i b → (d * w < 2 ^ 32) × (a + d * w < 2 ^ 32) × (a + d * w < w * 128)
 group-fits i w a b d h e l m top = fits_group i w a d h e l (omega arith) (λ q. let low = low_top i b (sym top) q in omega arith)
 
-pub overflow-mul-value : goal.overflow-mul-value
-overflow-mul-value c =
+pub overflow_mul-value : goal.overflow_mul-value
+overflow_mul-value c =
     let l = c.loop-i in
-    record { fits = (group-fits l.i l.weight l.value _ c.group.result l.invariant.0 l.invariant.1 l.invariant.2 c.group.ensures c.if-is-over-top.ensures).0 }
+    record { fits = (group-fits l.i l.weight l.value _ c.group.result l.invariant.0 l.invariant.1 l.invariant.2 c.group.ensures c.if-is_over_top.ensures).0 }
 
-pub overflow-add-value : goal.overflow-add-value
-overflow-add-value c =
+pub overflow_add-value : goal.overflow_add-value
+overflow_add-value c =
     let l = c.loop-i in
-    record { fits = (group-fits l.i l.weight l.value _ c.group.result l.invariant.0 l.invariant.1 l.invariant.2 c.group.ensures c.if-is-over-top.ensures).1 }
+    record { fits = (group-fits l.i l.weight l.value _ c.group.result l.invariant.0 l.invariant.1 l.invariant.2 c.group.ensures c.if-is_over_top.ensures).1 }
 
-pub returns-then-is-padded : goal.returns-then-is-padded
+pub returns-then-is_padded : goal.returns-then-is_padded
 unfolding read_number
-returns-then-is-padded c =
+returns-then-is_padded c =
     let l = c.loop-i in
     let bytes = c.args.bytes.now in
     record {
-      value = sym (whole bytes l.i l.weight l.value _ c.loop-i-test.true l.invariant.3 (read_padded l.i _ _ (sym c.if-is-over-top.ensures) c.if-b-lt-HIGH.true (sym c.if-is-padded.ensures)));
+      value = sym (whole bytes l.i l.weight l.value _ c.loop-i-test.true l.invariant.3 (read_padded l.i _ _ (sym c.if-is_over_top.ensures) c.if-b-lt-HIGH.true (sym c.if-is_padded.ensures)));
       within = omega arith;
       law = one_form;
     }
@@ -56,7 +56,7 @@ returns-then-b-lt-HIGH c =
     let bytes = c.args.bytes.now in
     let b = get_or bytes l.i 0 in
     let d : b ≡ c.group.result = omega arith in
-    let e = whole bytes l.i l.weight l.value _ c.loop-i-test.true l.invariant.3 (read_last l.i b (drop (l.i + 1) bytes) (sym c.if-is-over-top.ensures) c.if-b-lt-HIGH.true (sym c.if-is-padded.ensures)) in
+    let e = whole bytes l.i l.weight l.value _ c.loop-i-test.true l.invariant.3 (read_last l.i b (drop (l.i + 1) bytes) (sym c.if-is_over_top.ensures) c.if-b-lt-HIGH.true (sym c.if-is_padded.ensures)) in
     record {
       value = sym (e ∙ ap (λ x. Ok (l.value + x * l.weight, l.i + 1)) d);
       within = (omega arith, omega arith);
@@ -68,10 +68,10 @@ before : (i b : ℕ) → i ≤ 4 → false ≡ over_top i b → 128 ≤ b → i 
 before i b h top high =
     ⊎_elim (λ e. let low = low_top i b (sym top) e in absurd (omega arith)) (λ ne. omega arith) (cases_eq i 4)
 
-pub next-weight-weight-requires : goal.next-weight-weight-requires
-next-weight-weight-requires c =
+pub next_weight-weight-requires : goal.next_weight-weight-requires
+next_weight-weight-requires c =
     let l = c.loop-i in
-    weight_fits l.i l.weight (before l.i _ l.invariant.0 c.if-is-over-top.ensures c.if-b-lt-HIGH.false) l.invariant.1
+    weight_fits l.i l.weight (before l.i _ l.invariant.0 c.if-is_over_top.ensures c.if-b-lt-HIGH.false) l.invariant.1
 
 pub loop-i-preserved : goal.loop-i-preserved
 loop-i-preserved c =
@@ -79,13 +79,13 @@ loop-i-preserved c =
     let bytes = c.args.bytes.now in
     let b = get_or bytes l.i 0 in
     let rest = read_groups (l.i + 1) (drop (l.i + 1) bytes) in
-    let h = before l.i b l.invariant.0 c.if-is-over-top.ensures c.if-b-lt-HIGH.false in
-    let fit = group-fits l.i l.weight l.value b c.group.result l.invariant.0 l.invariant.1 l.invariant.2 c.group.ensures c.if-is-over-top.ensures in
-    let w : l.weight * 128 ≡ c.next-weight-weight.result = sym c.next-weight-weight.ensures in (
+    let h = before l.i b l.invariant.0 c.if-is_over_top.ensures c.if-b-lt-HIGH.false in
+    let fit = group-fits l.i l.weight l.value b c.group.result l.invariant.0 l.invariant.1 l.invariant.2 c.group.ensures c.if-is_over_top.ensures in
+    let w : l.weight * 128 ≡ c.next_weight-weight.result = sym c.next_weight-weight.ensures in (
       omega arith,
       sym w ∙ weight_more l.i l.weight l.invariant.1,
       subst (λ n. l.value + c.group.result * l.weight < n) w fit.2,
-      whole bytes l.i l.weight l.value _ c.loop-i-test.true l.invariant.3 (read_more l.i b (drop (l.i + 1) bytes) (sym c.if-is-over-top.ensures) c.if-b-lt-HIGH.false ∙ ap (λ x. below x rest) (sym c.group.ensures))
+      whole bytes l.i l.weight l.value _ c.loop-i-test.true l.invariant.3 (read_more l.i b (drop (l.i + 1) bytes) (sym c.if-is_over_top.ensures) c.if-b-lt-HIGH.false ∙ ap (λ x. below x rest) (sym c.group.ensures))
           ∙ above_below l.weight l.value c.group.result rest
           ∙ ap (λ n. above n (l.value + c.group.result * l.weight) rest) w,
     )

@@ -17,7 +17,7 @@ loop-step-preserved g c =
     let m = c.loop-step.manager in
     let ranks = g.M.ContentionManager.ranks m in
     let gives = g.M.ContentionManager.gives m in
-    let after : g.M.ContentionManager.ranks c.show-step.new.manager ≡ ranks_after gives (get_or story i (Began 0)) ranks = search rules in
+    let after : g.M.ContentionManager.ranks c.show_step.new.manager ≡ ranks_after gives (get_or story i (Began 0)) ranks = search rules in
     λ last told.
     c.loop-step.invariant last
     (subst (λ (l : List ManagerStep). ToldThrough l ranks last) (sym (drop_more story i (Began 0) c.loop-step-test.true))
@@ -28,4 +28,4 @@ returns g c =
     let story = c.args.story.now in
     let ranks = g.M.ContentionManager.ranks c.loop-step.manager in
     let told = c.loop-step.invariant ranks (subst (λ (l : List ManagerStep). ToldThrough l ranks ranks) (sym (drop_all c.loop-step.step-index story c.loop-step-test.false)) nothing_more) in
-    made_always c.println.result _ (λ x. (ranks, told, c.end-all.ensures))
+    made_always c.println.result _ (λ x. (ranks, told, c.end_all.ensures))

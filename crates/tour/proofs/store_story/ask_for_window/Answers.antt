@@ -6,6 +6,6 @@ use Rattle.tour.proofs.store_story.ask_for_window.Goals as goal
 pub returns : goal.returns
 returns g c =
     record {
-      after = IfOk-weaker c.show-window.result _ (λ s. g.S.Store.words s ≡ g.S.Store.words c.args.store) (λ s e. e ∙ nothing_done c.args.first c.args.count (g.S.Store.words c.args.store)) c.show-window.ensures.after;
-      aside = c.show-window.ensures.aside;
+      after = IfOk-weaker c.show_window.result _ (λ s. g.S.Store.words s ≡ g.S.Store.words c.args.store) (λ s e. e ∙ nothing_done c.args.first c.args.count (g.S.Store.words c.args.store)) c.show_window.ensures.after;
+      aside = c.show_window.ensures.aside;
     }

@@ -7,4 +7,4 @@ use Rattle.tour.proofs.store_story.show_steps.Given as goal
 abbrev pub invariant-loop-step : goal.invariant-loop-step
 invariant-loop-step g l =
     (words_after_all (drop l.step-index l.steps) (g.S.Store.words l.store) ≡ words_after_all l.steps (g.S.Store.words l.initial.store))
-    × (g.S.Store.ground l.store ≡ g.S.Store.ground l.initial.store)
+    × (g.S.Store.footing l.store ≡ g.S.Store.footing l.initial.store)

@@ -4,7 +4,7 @@ use Rattle.manager.proofs.Changes.{lawful_event}
 use Rattle.manager.proofs.Keeping.{kept}
 use Rattle.manager.proofs.ranked.RankedContentionManager.wrote.Goals as goal
 
-pub invariant-of-self : goal.invariant-of-self
-invariant-of-self g c =
+pub invariant_of-self : goal.invariant_of-self
+invariant_of-self g c =
     let law = kept c.args.self.now c.give.new.self (after_event true c.args.job) (lawful_event true c.args.job) c.give.ensures in
-    (law.fits, (law.below, (law.apart, tt)))
+    record { fits = law.fits; below = law.below; apart = law.apart }

@@ -5,6 +5,6 @@ use Rattle.store.proofs.byte.ByteStoreStore.len.Goals as goal
 pub returns : goal.returns
 returns c =
     record {
-      counts = c.word-count.ensures ∙ sym (length_words c.args.self.now.bytes.now);
+      counts = c.word_count.ensures ∙ sym (length_words c.args.self.now.bytes.now);
       bounds = λ o. o.1;
     }

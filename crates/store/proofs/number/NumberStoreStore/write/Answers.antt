@@ -10,7 +10,7 @@ pub returns : goal.returns
 returns c =
     record {
       answer = search rules;
-      after = c.place-word.ensures;
+      after = c.place_word.ensures;
       aside = search rules;
-      stays = λ o. rw c.place-word.ensures (book_set c.args.self.now.words.now c.args.word c.args.value c.ranges.value.fits o);
+      stays = λ o. rw c.place_word.ensures (book_set c.args.self.now.words.now c.args.word c.args.value c.ranges.value.fits o);
     }

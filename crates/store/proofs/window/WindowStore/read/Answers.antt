@@ -6,12 +6,12 @@ use Rattle.store.proofs.Places.{found, missing}
 use Rattle.store.proofs.Panes.{past, reading_within}
 use Rattle.store.proofs.window.WindowStore.read.Goals as goal
 
-pub returns-in-default : goal.returns-in-default
-returns-in-default g c =
+pub returns-in_default : goal.returns-in_default
+returns-in_default g c =
     let s = c.args.self.now in
     let a = c.args.word in
     let words = g.S.Store.words s.store in
-    past s.first s.count a words (Ok (get_or (window s.first s.count words) a 0)) (Err BeyondBook) (missing a s.count (s.first + a) c.in-default.ensures)
+    past s.first s.count a words (Ok (get_or (window s.first s.count words) a 0)) (Err BeyondBook) (missing a s.count (s.first + a) c.in_default.ensures)
 
 pub returns : goal.returns
 returns g c =
