@@ -2,7 +2,7 @@
 ghost use Rattle.std.specs.Prelude.{◌≡◌, ◌≤◌};
 ghost use Rattle.manager.specs.Ranks.{Apart, BelowNext, last_number, no_ranks};
 ghost use Rattle.manager.specs.Tables.{table_ranks};
-ghost use Rattle.std.proofs.Common.{rules, arith};
+ghost use Rattle.std.proofs.Common.{rules};
 
 use crate::ContentionManager;
 use crate::event::Event;
@@ -37,7 +37,7 @@ impl<R: RankRule> ContentionManager for Ranked<R> {
 
     ghost gives = { λ m event. R.gives m.rule event };
 
-    ghost lawful = { first_of (Prim.search rules, Prim.grind (arith, Self.row.coded.inj)) };
+    ghost lawful = { Prim.search rules };
 
     fn began(&mut self, job: usize) {
         if self.rule.gives_rank(Event::Began { job }) {
