@@ -1,5 +1,5 @@
 -- How long a book may be.
-use Rattle.std.specs.Prelude.{ℕ, Bool, ◌&&◌, leb}
+use Rattle.std.specs.Prelude.{ℕ, Bool, ◌&&◌, nat_le}
 
 -- The most words that a book has.
 abbrev pub most_words : ℕ
@@ -7,4 +7,4 @@ most_words = 4096
 
 -- Whether a book may have so many words: at least one, and not too many.
 abbrev pub is_book_length : ℕ → Bool
-is_book_length length = leb 1 length && leb length most_words
+is_book_length length = nat_le 1 length && nat_le length most_words

@@ -31,16 +31,16 @@ four0 : (a : ℕ) → 4 * suc a ≡ suc (suc (suc (suc (4 * a))))
 four0 a = omega arith
 
 -- Word a is made of the bytes from place 4a on.
-pub get_d_words : (bytes : List ℕ) (a : ℕ) → a < length bytes / 4 →
+pub get_or_words : (bytes : List ℕ) (a : ℕ) → a < length bytes / 4 →
     get_or (words_of_bytes bytes) a 0 ≡ word_of (get_or bytes (4 * a) 0) (get_or bytes (4 * a + 1) 0) (get_or bytes (4 * a + 2) 0) (get_or bytes (4 * a + 3) 0)
-get_d_words [] a h = absurd (omega arith)
-get_d_words (p ∷ []) a h = absurd (omega arith)
-get_d_words (p ∷ q ∷ []) a h = absurd (omega arith)
-get_d_words (p ∷ q ∷ r ∷ []) a h = absurd (omega arith)
-get_d_words (p ∷ q ∷ r ∷ s ∷ rest) zero h = refl
-get_d_words (p ∷ q ∷ r ∷ s ∷ rest) (suc a) h =
+get_or_words [] a h = absurd (omega arith)
+get_or_words (p ∷ []) a h = absurd (omega arith)
+get_or_words (p ∷ q ∷ []) a h = absurd (omega arith)
+get_or_words (p ∷ q ∷ r ∷ []) a h = absurd (omega arith)
+get_or_words (p ∷ q ∷ r ∷ s ∷ rest) zero h = refl
+get_or_words (p ∷ q ∷ r ∷ s ∷ rest) (suc a) h =
     let k : a < length rest / 4 = omega arith in
-    rw (four a 1, four a 2, four a 3, four0 a) (get_d_words rest a k)
+    rw (four a 1, four a 2, four a 3, four0 a) (get_or_words rest a k)
 
 -- Four bytes put in at place 4a make word a anew, and no other.
 words_set : (bytes : List ℕ) (a w x y z : ℕ) → a < length bytes / 4 →

@@ -15,8 +15,8 @@ pub length_window : (first count : ℕ) (words : List ℕ) → length (window fi
 length_window first count words = simp (length-take, length-drop)
 
 -- A word of a window is the one below it.
-pub get_d_window : (first count a : ℕ) (words : List ℕ) → a < count → get_or (window first count words) a 0 ≡ get_or words (first + a) 0
-get_d_window first count a words h = get_or-take count (drop first words) a 0 h ∙ get_or-drop first words a 0
+pub get_or_window : (first count a : ℕ) (words : List ℕ) → a < count → get_or (window first count words) a 0 ≡ get_or words (first + a) 0
+get_or_window first count a words h = get_or-take count (drop first words) a 0 h ∙ get_or-drop first words a 0
 
 -- What is asked of a word of a window, by a test of its place, is what is asked of the word below.
 within : {X : Type 0} (first count a : ℕ) (words : List ℕ) (x y : X) → a < count →
@@ -41,7 +41,7 @@ past first count a words x y h =
 pub reading_within : (first count a : ℕ) (words : List ℕ) → a < count → reading words (first + a) ≡ reading (window first count words) a
 reading_within first count a words h =
     within first count a words (Ok (get_or words (first + a) 0)) (Err BeyondBook) h
-    ∙ ap (λ (v : ℕ). let r : Result ℕ Refusal = cond (ltb a (length (window first count words))) (Ok v) (Err BeyondBook) in r) (sym (get_d_window first count a words h))
+    ∙ ap (λ (v : ℕ). let r : Result ℕ Refusal = cond (ltb a (length (window first count words))) (Ok v) (Err BeyondBook) in r) (sym (get_or_window first count a words h))
 
 pub writing_within : (first count a : ℕ) (words : List ℕ) → a < count → writing words (first + a) ≡ writing (window first count words) a
 writing_within first count a words h = within first count a words (Ok tt) (Err BeyondBook) h
@@ -110,7 +110,7 @@ book_window first count words inside book = (fits, below)
     below : (a : ℕ) → get_or (window first count words) a 0 < 2 ^ 32
     below a =
         ⊎_elim
-        (λ (h : a < count). rw (get_d_window first count a words h) (book.1 (first + a)))
+        (λ (h : a < count). rw (get_or_window first count a words h) (book.1 (first + a)))
         (λ (h : count ≤ a).
         let i : length (window first count words) ≤ a = rw length_window (omega arith) in
         rw (get_or_past (window first count words) a 0 i) (omega arith))

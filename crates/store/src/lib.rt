@@ -35,7 +35,7 @@ pub trait Store {
         ensures { result ≡ reading (words self.now) word };
 
     // Makes the word that value, and changes nothing else; refused, with nothing changed, where there is no such word (a
-    // list stays as it is where it is `set` past its end).
+    // list stays as it is where it is `slice_set` past its end).
     fn write(&mut self, word: usize, value: u32) -> Result<(), Refusal>
         ensures answer { result ≡ writing (words self.old) word }
         ensures after { words self.new ≡ slice_set (words self.old) word value }

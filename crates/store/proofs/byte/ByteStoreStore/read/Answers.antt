@@ -1,5 +1,5 @@
 use Rattle.std.proofs.Common.{◌*◌, ◌/◌, ◌≤◌, length, rules}
-use Rattle.store.proofs.Fours.{length_words, get_d_words}
+use Rattle.store.proofs.Fours.{length_words, get_or_words}
 use Rattle.store.proofs.Places.{found, missing}
 use Rattle.store.proofs.byte.ByteStoreStore.read.Goals as goal
 
@@ -17,5 +17,5 @@ returns c =
     let a = c.args.word in
     let e = length_words bytes in
     let f = found a (length bytes / 4) (4 * a) c.in-Some.place c.in-Some.ensures in
-    let w = get_d_words bytes a f.0 in
+    let w = get_or_words bytes a f.0 in
     search rules
