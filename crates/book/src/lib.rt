@@ -8,7 +8,7 @@ ghost use Rattle.book.specs.Refusals.{refusal_number};
 // The most words that a book has.
 pub const MOST_WORDS: usize = 4096;
 
-// What is refused.
+// What is refused. A refusal is told by its number.
 #[derive(Clone, Copy, PartialEq, Eq, Debug)]
 pub enum Refusal {
     // There is no such word.
@@ -29,12 +29,12 @@ pub enum Refusal {
     BadRemark = 13,
 }
 
-impl Refusal {
-    // The number under which the refusal is told.
-    pub fn number(self) -> u8
-        ensures { result ≡ refusal_number self }
-    {
-        self as u8
+// The number under which a refusal is told.
+impl From<Refusal> for u8 {
+    ghost from_gives = { λ refusal number. number ≡ refusal_number refusal };
+
+    fn from(value: Refusal) -> u8 {
+        value as u8
     }
 }
 
@@ -42,5 +42,5 @@ impl Refusal {
 pub fn fits_book(length: usize) -> bool
     ensures { result ≡ is_book_length length }
 {
-    length >= 1 && length <= MOST_WORDS
+    (1..=MOST_WORDS).contains(&length)
 }

@@ -34,7 +34,7 @@ mod tests {
             assert!(rt; length <= words.len());
             match NumberStore::open(&mut words[0..length]) {
                 Ok(store) => assert!(rt; opens && store.len() == length && ends_at(&store, length)),
-                Err(unopened) => assert!(rt; !opens && unopened.refusal.number() == 7),
+                Err(unopened) => assert!(rt; !opens && u8::from(unopened.refusal) == 7),
             }
         }
         Ok(())
@@ -63,7 +63,7 @@ mod tests {
                 Ok(store) => assert!(rt;
                     opens && store.len() == length / 4 && ends_at(&store, length / 4)
                 ),
-                Err(unopened) => assert!(rt; !opens && unopened.refusal.number() == 7),
+                Err(unopened) => assert!(rt; !opens && u8::from(unopened.refusal) == 7),
             }
         }
         Ok(())
@@ -91,7 +91,7 @@ mod tests {
             match NumberStore::open(&mut words) {
                 Ok(store) => match Window::open(store, first, count) {
                     Ok(window) => assert!(rt; opens && ends_at(&window, count as usize)),
-                    Err(unopened) => assert!(rt; !opens && unopened.refusal.number() == 8),
+                    Err(unopened) => assert!(rt; !opens && u8::from(unopened.refusal) == 8),
                 },
                 Err(_) => return Err(Fail::new("16 words are a book")),
             }
@@ -140,12 +140,12 @@ mod tests {
         assert!(rt; first_of_window(&mut [5, 6, 7], 1, 2).ok() == Some(6));
         match first_of_window(&mut [], 0, 1) {
             Ok(_) => return Err(Fail::new("no numbers are no book")),
-            Err(refusal) => assert!(rt; refusal.number() == 7),
+            Err(refusal) => assert!(rt; u8::from(refusal) == 7),
         }
         match first_of_window(&mut [5, 6, 7], 2, 2) {
             Ok(_) => Err(Fail::new("3 words have no word 3")),
             Err(refusal) => {
-                assert!(rt; refusal.number() == 8);
+                assert!(rt; u8::from(refusal) == 8);
                 Ok(())
             },
         }

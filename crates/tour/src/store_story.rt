@@ -43,7 +43,7 @@ impl fmt::Display for StoreAnswer {
             StoreAnswer::Value(value) => write!(f, "value {value}"),
             StoreAnswer::Done => write!(f, "ok"),
             StoreAnswer::Refused(refusal) => {
-                let number = refusal.number();
+                let number = u8::from(refusal);
                 write!(f, "refused {number}")
             }
         }
