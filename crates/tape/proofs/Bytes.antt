@@ -1,5 +1,8 @@
 -- What is written down is bytes.
-use Rattle.std.proofs.Common.{◌≡◌, ℕ, zero, suc, ◌<◌, Bool, true, false, cond, List, [], ◌∷◌, ◌++◌, length, get_or, refl, arith, lit<}
+use Rattle.std.proofs.Common.{◌≡◌, ℕ, zero, suc, ◌<◌, List, [], ◌∷◌, ◌++◌, length, get_or, sym, subst, ⊎_elim, arith, lit<}
+use Rattle.std.proofs.lemmas.List.{get_or_past}
+use Rattle.std.proofs.lemmas.List.Sums.{prefix_len_passes}
+use Rattle.std.proofs.lemmas.Bool.{cases_lt}
 use Rattle.std.proofs.lemmas.Bool.Decides.{nat_tests}
 use Rattle.std.specs.List.{flat_map}
 use Rattle.tape.specs.declared.heading.Heading.{Heading}
@@ -31,16 +34,13 @@ code_byte item.Quit = lit< tt
 code_byte item.Look = lit< tt
 code_byte item.Remark = lit< tt
 
--- A front that is as long as the list goes on behind its first byte.
-front_next : (t : Bool) (n l : ℕ) → cond t (suc n) 0 ≡ suc l → (t ≡ true) × (n ≡ l)
-front_next true n l e = (refl, omega arith)
-front_next false n l e = absurd (omega arith)
-
 -- The bytes of a remark are ASCII.
 pub remark_ascii : (bytes : List ℕ) → printable_front bytes ≡ length bytes → (k : ℕ) → get_or bytes k 0 < 128
-remark_ascii [] e k = lit< tt
-remark_ascii (b ∷ bytes) e zero = let p = (front_next (printable b) _ _ e).0 in grind (arith, nat_tests)
-remark_ascii (b ∷ bytes) e (suc k) = remark_ascii bytes (front_next (printable b) _ _ e).1 k
+remark_ascii bytes e k =
+    ⊎_elim
+    (λ h. let p = prefix_len_passes printable bytes k 0 (omega arith) in grind (arith, nat_tests))
+    (λ h. subst (λ x. x < 128) (sym (get_or_past bytes k 0 h)) (lit< tt))
+    (cases_lt k (length bytes))
 
 remark_bytes : (bytes : List ℕ) → printable_front bytes ≡ length bytes → Bytes bytes
 remark_bytes bytes e k = let h = remark_ascii bytes e k in omega arith

@@ -1,6 +1,5 @@
 -- A blank tape, filled from bytes.
-use Rattle.std.proofs.Common.{◌≡◌, ℕ, ◌-◌, true, false, ltb, List, [], map, length, take, drop, vec_items, Option, Result, sym, ap, ◌∙◌, ap₂, arith}
-use Rattle.std.proofs.lemmas.List.{take_all}
+use Rattle.std.proofs.Common.{◌≡◌, ℕ, true, false, ltb, List, [], map, length, vec_items, Option, Result, sym, ap, ◌∙◌, ap₂}
 use Rattle.std.proofs.lemmas.Bool.{cond-true, cond-false}
 use Rattle.tape.specs.declared.fault.HeadingFault.{HeadingFault}
 use Rattle.tape.specs.declared.fault.ProgramFault.{ProgramFault}
@@ -22,18 +21,13 @@ parts_of tape h items was fault eh ei ef =
     ap (λ x. record { heading = x; items = map said (vec_items tape.items); fault = was }) eh
     ∙ ap₂ (λ x y. record { heading = h; items = x; fault = y }) ei ef
 
--- A cursor at the start of a tape.
-pub start_spot : (tape : List ℕ) → ◌≡◌ {A = Spot} (record { place = 0; bytes = take (length tape - 0) (drop 0 tape) }) (at 0 tape)
-start_spot tape = ap (at 0) (take_all (length tape - 0) tape (omega arith))
-
 pub says_long : (tape : List ℕ) → ltb most_bytes (length tape) ≡ true → tape_says tape ≡ unread program.TooLong
 unfolding tape_says
 says_long tape h = cond-true _ _ _ h
 
-pub says_headed : (tape : List ℕ) (r : Result (Heading × Spot) HeadingFault) → ltb most_bytes (length tape) ≡ false
-    → r ≡ heading_at (record { place = 0; bytes = take (length tape - 0) (drop 0 tape) }) → tape_says tape ≡ after_heading r
+pub says_headed : (tape : List ℕ) (r : Result (Heading × Spot) HeadingFault) → ltb most_bytes (length tape) ≡ false → r ≡ heading_at (at 0 tape) → tape_says tape ≡ after_heading r
 unfolding tape_says
-says_headed tape r h e = cond-false _ _ _ h ∙ ap (λ s. after_heading (heading_at s)) (sym (start_spot tape)) ∙ ap after_heading (sym e)
+says_headed tape r h e = cond-false _ _ _ h ∙ ap after_heading (sym e)
 
 pub blank_items : (items : List Item) → items ≡ [] → map said items ≡ []
 blank_items items e = ap (map said) e

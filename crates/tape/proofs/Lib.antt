@@ -5,7 +5,7 @@ pub mod Fills
 pub mod Judged
 pub mod Parts
 pub mod Readings
-pub mod Remarks
+pub mod Shrinks
 pub mod Steps
 pub mod Turns
 pub mod Wholes

@@ -2,6 +2,7 @@
 use Rattle.std.proofs.Common.{◌≡◌, ℕ, suc, ◌+◌, ◌≤◌, Bool, true, false, cond, eqb, ltb, List, [], ◌∷◌, ◌++◌, length, take, Some, None, Ok, Err, Option, sym, refl, ap, ◌∙◌, ap₂, append-nil, arith, length-take}
 use Rattle.std.proofs.lemmas.List.{take-append-drop, length-take-le}
 use Rattle.std.proofs.lemmas.Bool.{ltb-false, eqb-true}
+use Rattle.std.proofs.lemmas.List.Sums.{prefix_len-le-length}
 use Rattle.tape_number.specs.declared.fault.NumberFault.{NumberFault}
 use Rattle.tape.specs.declared.fault.HeadingFault.{HeadingFault}
 use Rattle.tape.specs.declared.fault.HeadingFault.TheVariants as in_heading
@@ -72,14 +73,6 @@ write_judged here f =
 within : {from here : Spot} {form : List ℕ} (n : ℕ) (cut : Bool) → Took from form here → n ≤ length here.bytes → (cut ≡ true → n ≡ length here.bytes) → Inside from (here.place + n, cut)
 within n cut t h c = inside_behind _ t (record { low = omega arith; high = omega arith; end = λ z. let e = c z in omega arith })
 
-front_step : (t : Bool) (n l : ℕ) → n ≤ l → cond t (suc n) 0 ≤ suc l
-front_step true n l h = omega arith
-front_step false n l h = omega arith
-
-front_le : (bytes : List ℕ) → printable_front bytes ≤ length bytes
-front_le [] = omega arith
-front_le (b ∷ bytes) = front_step (printable b) (printable_front bytes) (length bytes) (front_le bytes)
-
 -- What follows a remark's length.
 remark_by : {from : Spot} {form : List ℕ} (count : ℕ) (here : Spot) → Took from form here → form ≡ byte_form count → (good short bad : Bool)
     → remark_length count ≡ good → ltb (length here.bytes) count ≡ short → ltb (printable_front (take count here.bytes)) count ≡ bad
@@ -92,13 +85,13 @@ remark_by : {from : Spot} {form : List ℕ} (count : ℕ) (here : Spot) → Took
 remark_by {from} count here t e false short bad a b c = here_inside from
 remark_by count here t e true true bad a b c = within (length here.bytes) true t (omega arith) (λ z. refl)
 remark_by count here t e true false true a b c =
-    let l = front_le (take count here.bytes) in
+    let l = prefix_len-le-length printable (take count here.bytes) in
     within (printable_front (take count here.bytes)) false t (omega (arith, length-take count here.bytes)) apart
 remark_by {from} {form} count here t e true false false a b c =
     let bytes = take count here.bytes in
     let n : length bytes ≡ count = length-take-le count here.bytes (ltb-false _ _ b) in
     let lo = ltb-false _ _ c in
-    let hi = front_le bytes in (
+    let hi = prefix_len-le-length printable bytes in (
       bytes,
       ((rw n a, omega arith), refl, ap (λ bs. bs ++ bytes) (e ∙ ap byte_form (sym n))),
       record { split = sym (take-append-drop count here.bytes); moved = ap (λ k. here.place + k) (sym n) },

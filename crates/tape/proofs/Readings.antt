@@ -10,6 +10,7 @@ use Rattle.tape.specs.Tapes.{ItemsRead, at_end, after_item, items_within, items_
 use Rattle.tape.specs.Written.{item_form, SoundItems}
 use Rattle.tape.proofs.Backs.{at, item_back}
 use Rattle.tape.proofs.Judged.{Inside, Took, took_bytes, took_both, Judged}
+use Rattle.tape.proofs.Shrinks.{item_fewer}
 use Rattle.tape.proofs.Parts.{item_found, ItemRead, item_judged}
 
 pub some_form : (it : Said) → 0 < length (item_form it)
@@ -20,43 +21,35 @@ some_form it = omega arith
 pub took_fewer : {here after : Spot} {form : List ℕ} → Took here form after → length here.bytes ≡ length form + length after.bytes
 took_fewer {after = after} {form = form} t = ap length t.split ∙ length-append form after.bytes
 
-pub item_fewer : (here : Spot) → Bytes here.bytes → (it : Said) (after : Spot) → item_at here ≡ Ok (it, after) → (length after.bytes < length here.bytes) × Bytes after.bytes
-item_fewer here f it after e =
-    let j = subst (λ (r : Result (Said × Spot) ItemFault). Judged ItemRead item_found here here r) e (item_judged here f) in
-    let l = took_fewer j.2 in
-    let p = some_form it in
-    let q : length j.0 ≡ length (item_form it) = ap length j.1.1 in
-    (omega arith, took_bytes j.2 f)
-
 -- The bound on the number of items does not matter, where it is not below the number of bytes.
 same_by : (F G : Spot → ItemsRead) (r : Result (Said × Spot) ItemFault) → ((it : Said) (after : Spot) → r ≡ Ok (it, after) → F after ≡ G after) → after_item F r ≡ after_item G r
 same_by F G (Ok x) f = ap (λ (q : ItemsRead). record { items = x.0 ∷ q.items; fault = q.fault }) (f x.0 x.1 refl)
 same_by F G (Err fault) f = refl
 
-same_items : (m n : ℕ) (here : Spot) → Bytes here.bytes → length here.bytes ≤ m → length here.bytes ≤ n → items_within m here ≡ items_within n here
-same_items zero zero here f h g = refl
-same_items zero (suc n) here f h g = sym (cond-true _ _ _ (eq-eqb (length here.bytes) 0 (omega arith)))
-same_items (suc m) zero here f h g = cond-true _ _ _ (eq-eqb (length here.bytes) 0 (omega arith))
-same_items (suc m) (suc n) here f h g =
+same_items : (m n : ℕ) (here : Spot) → length here.bytes ≤ m → length here.bytes ≤ n → items_within m here ≡ items_within n here
+same_items zero zero here h g = refl
+same_items zero (suc n) here h g = sym (cond-true _ _ _ (eq-eqb (length here.bytes) 0 (omega arith)))
+same_items (suc m) zero here h g = cond-true _ _ _ (eq-eqb (length here.bytes) 0 (omega arith))
+same_items (suc m) (suc n) here h g =
     ap (cond (eqb (length here.bytes) 0) at_end)
     (same_by (items_within m) (items_within n) (item_at here) (λ it after e.
-    let w = item_fewer here f it after e in
-    same_items m n after w.1 (omega (arith, w.0)) (omega (arith, w.0))))
+    let w = item_fewer here it after e in
+    same_items m n after (omega arith) (omega arith)))
 
 pub items_none : (here : Spot) → length here.bytes ≡ 0 → items_at here ≡ at_end
 unfolding items_at
 items_none here e = rw e
 
 -- An item more, or its fault.
-pub items_more : (here : Spot) → Bytes here.bytes → 0 < length here.bytes → items_at here ≡ after_item items_at (item_at here)
+pub items_more : (here : Spot) → 0 < length here.bytes → items_at here ≡ after_item items_at (item_at here)
 unfolding items_at
-items_more here f h =
+items_more here h =
     let l = length here.bytes in
-    same_items l (suc l) here f (omega arith) (omega arith)
+    same_items l (suc l) here (omega arith) (omega arith)
     ∙ cond-false _ _ _ (ne_eqb l 0 (λ z. omega arith))
     ∙ same_by (items_within l) items_at (item_at here) (λ it after e.
-    let w = item_fewer here f it after e in
-    same_items l (length after.bytes) after w.1 (omega (arith, w.0)) (omega arith))
+    let w = item_fewer here it after e in
+    same_items l (length after.bytes) after (omega arith) (omega arith))
 
 -- What some items and a fault say of the bytes at a spot: the items' forms stand there, and behind them nothing, or what is at fault.
 abbrev pub ItemsJudged : Spot → ItemsRead → Type 0

@@ -12,7 +12,7 @@ use Rattle.tape.specs.declared.fault.ItemFault.TheVariants as in_item
 use Rattle.tape.specs.declared.fault.ProgramFault.{ProgramFault}
 use Rattle.tape.specs.declared.fault.ProgramFault.TheVariants as program
 use Rattle.tape.specs.declared.heading.Heading.{Heading}
-use Rattle.tape.specs.declared.refusal.Refusal.TheVariants.{CutShort}
+use Rattle.book.specs.declared.Refusal.TheVariants.{CutShort}
 use Rattle.tape.specs.Faults.{most_bytes, number_refusal, item_refusal, item_place, heading_refusal, heading_place, program_refusal, program_place}
 use Rattle.tape.specs.Headings.{heading_at}
 use Rattle.tape.specs.Items.{Said}

@@ -9,17 +9,8 @@ use Rattle.tape.specs.declared.fault.HeadingFault.{HeadingFault}
 use Rattle.tape.specs.declared.fault.HeadingFault.TheVariants as in_heading
 use Rattle.tape.specs.declared.fault.ProgramFault.{ProgramFault}
 use Rattle.tape.specs.declared.fault.ProgramFault.TheVariants as in_program
-use Rattle.tape.specs.declared.refusal.Refusal.{Refusal}
-use Rattle.tape.specs.declared.refusal.Refusal.TheVariants.{BadLength, CutShort, BadNumber, Unknown, TooLong, BadRemark}
-
--- The number of each refusal.
-abbrev pub refusal_number : Refusal → ℕ
-refusal_number BadLength = 7
-refusal_number CutShort = 9
-refusal_number BadNumber = 10
-refusal_number Unknown = 11
-refusal_number TooLong = 12
-refusal_number BadRemark = 13
+use Rattle.book.specs.declared.Refusal.{Refusal}
+use Rattle.book.specs.declared.Refusal.TheVariants.{BadLength, CutShort, BadNumber, Unknown, TooLong, BadRemark}
 
 -- The most bytes that a tape may have.
 abbrev pub most_bytes : ℕ

@@ -1,7 +1,8 @@
 -- Figures by which the definitions of tape numbers can be judged by eye.
 use Rattle.std.specs.Prelude.{◌≡◌, ℕ, [], ◌∷◌, Some, None, Ok, Err, Option, Result}
 use Rattle.tape_number.specs.declared.fault.NumberFault.{NumberFault}
-use Rattle.tape.specs.Faults.{refusal_number, number_refusal}
+use Rattle.book.specs.Refusals.{refusal_number}
+use Rattle.tape.specs.Faults.{number_refusal}
 use Rattle.tape_number.specs.Numbers.{byte_form, read_number}
 
 -- The number of the refusal that some bytes meet where a number is read.

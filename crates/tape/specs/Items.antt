@@ -1,6 +1,6 @@
 -- What the items of a tape say. An item begins with a code byte; what comes behind it depends on its kind.
-use Rattle.std.specs.Prelude.{ℕ, suc, ◌+◌, Bool, cond, ◌&&◌, List, [], ◌∷◌, length, take, Some, None, Ok, Err, Option, Result, nat_le, nat_lt}
-use Rattle.tape.specs.declared.cursor.Cursor.{Cursor}
+use Rattle.std.specs.Prelude.{ℕ, ◌+◌, Bool, cond, ◌&&◌, List, [], ◌∷◌, length, take, Some, None, Ok, Err, Option, Result, nat_le, nat_lt}
+use Rattle.std.specs.List.{prefix_len}
 use Rattle.tape.specs.declared.fault.ItemFault.{ItemFault}
 use Rattle.tape.specs.declared.fault.ItemFault.TheVariants.{Number, Cut, Code, Length, Byte}
 use Rattle.tape.specs.declared.kind.ItemKind.{ItemKind}
@@ -8,7 +8,7 @@ use Rattle.tape.specs.declared.kind.ItemKind.TheVariants as kind
 use Rattle.tape.specs.declared.item.Item.{Item}
 use Rattle.tape.specs.declared.item.Item.TheVariants as item
 use Rattle.tape.specs.Kinds.{item_kind_of}
-use Rattle.tape.specs.Spots.{Spot, spot, past, field}
+use Rattle.tape.specs.Spots.{Spot, past, field}
 
 -- What an item says: the call with its numbers, or the bytes of a remark.
 pub data Said : Type 0 where
@@ -32,10 +32,10 @@ said (item.Quit job) = quit job
 said (item.Look job) = look job
 said (item.Remark bytes) = remark bytes.now
 
--- An item that the code has read, with the spot of the cursor that it gives.
-abbrev pub told_item : List ℕ → Result (Item × Cursor) ItemFault → Result (Said × Spot) ItemFault
-told_item tape (Ok x) = Ok (said x.0, spot tape x.1)
-told_item tape (Err fault) = Err fault
+-- What an item says that a reader has read, with the spot at which it stands then.
+abbrev pub told_item : Result Item ItemFault → Spot → Result (Said × Spot) ItemFault
+told_item (Ok it) after = Ok (said it, after)
+told_item (Err fault) after = Err fault
 
 -- The least byte that may stand in a remark: the space of ASCII.
 abbrev pub space : ℕ
@@ -51,8 +51,7 @@ printable byte = nat_le space byte && nat_le byte tilde
 
 -- How many bytes at the front of a list are printable.
 abbrev pub printable_front : List ℕ → ℕ
-printable_front [] = 0
-printable_front (byte ∷ bytes) = cond (printable byte) (suc (printable_front bytes)) 0
+printable_front bytes = prefix_len printable bytes
 
 -- The most bytes that a remark has.
 abbrev pub most_remark : ℕ

@@ -1,5 +1,7 @@
 -- The kinds that a tape names, and the number of each.
-use Rattle.std.specs.Prelude.{ℕ, ◌-◌, cond, List, [], ◌∷◌, Some, None, Option, ◌==◌}
+use Rattle.std.specs.Prelude.{◌≡◌, ℕ, ◌-◌, cond, List, [], ◌∷◌, Some, None, Ok, Err, Option, Result, ◌==◌}
+use Rattle.book.specs.Lengths.{most_words as book_words}
+use Rattle.tape.specs.declared.kind.UnknownKind.{UnknownKind}
 use Rattle.tape.specs.declared.kind.ManagerKind.{ManagerKind}
 use Rattle.tape.specs.declared.kind.ManagerKind.TheVariants as manager
 use Rattle.tape.specs.declared.kind.StoreKind.{StoreKind}
@@ -11,6 +13,15 @@ use Rattle.tape.specs.declared.kind.ItemKind.TheVariants as item
 abbrev pub with_number : {K : Type 0} → (number : K → ℕ) → List K → ℕ → Option K
 with_number number [] n = None
 with_number number (kind ∷ kinds) n = cond (n == number kind) (Some kind) (with_number number kinds n)
+
+-- What naming a kind by its number gives: the kind, or that there is none.
+abbrev pub named : {K : Type 0} → Option K → Result K UnknownKind
+named (Some kind) = Ok kind
+named None = Err (record {})
+
+-- A conversion gives the kind that a number names, and nothing where it names none.
+abbrev pub Converts : {K : Type 0} → (gives : ℕ → Result K UnknownKind → Type 0) → (kind_of : ℕ → Option K) → Type 0
+Converts {K} gives kind_of = (number : ℕ) (kind : Result K UnknownKind) → gives number kind → kind ≡ named (kind_of number)
 
 -- The number of each contention manager.
 abbrev pub manager_number : ManagerKind → ℕ
@@ -40,19 +51,15 @@ stores = store.Number ∷ store.Byte ∷ store.Window ∷ []
 abbrev pub store_of : ℕ → Option StoreKind
 store_of n = with_number store_number stores n
 
--- The most words that a store has.
-abbrev pub store_words : ℕ
-store_words = 4096
-
 -- The word of the byte store below it at which a window begins.
 abbrev pub window_start : ℕ
 window_start = 16
 
 -- The most words that a book has in each store: a window is as much shorter as it begins later.
 abbrev pub most_words : StoreKind → ℕ
-most_words store.Number = store_words
-most_words store.Byte = store_words
-most_words store.Window = store_words - window_start
+most_words store.Number = book_words
+most_words store.Byte = book_words
+most_words store.Window = book_words - window_start
 
 -- The code byte with which each kind of item begins.
 abbrev pub item_code : ItemKind → ℕ

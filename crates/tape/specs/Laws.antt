@@ -2,7 +2,7 @@
 use Rattle.std.specs.Prelude.{◌≡◌, ℕ, ◌+◌, ◌≤◌, List, [], length, take, Some, None}
 use Rattle.tape.specs.declared.fault.ProgramFault.{ProgramFault}
 use Rattle.tape.specs.declared.heading.Heading.{Heading}
-use Rattle.tape.specs.declared.refusal.Refusal.TheVariants.{CutShort}
+use Rattle.book.specs.declared.Refusal.TheVariants.{CutShort}
 use Rattle.tape.specs.Faults.{most_bytes, program_refusal, program_place}
 use Rattle.tape.specs.Items.{Said}
 use Rattle.tape_number.specs.Numbers.{Bytes}

@@ -1,6 +1,5 @@
 -- Where a reader stands on a tape, and the number that it reads there.
-use Rattle.std.specs.Prelude.{ℕ, ◌+◌, ◌-◌, ◌≤◌, List, length, take, drop, Ok, Err, Result}
-use Rattle.tape.specs.declared.cursor.Cursor.{Cursor}
+use Rattle.std.specs.Prelude.{ℕ, ◌+◌, List, drop, Ok, Err, Result}
 use Rattle.tape_number.specs.declared.fault.NumberFault.{NumberFault}
 use Rattle.tape.specs.Faults.{shifted}
 use Rattle.tape_number.specs.Numbers.{read_number}
@@ -10,22 +9,14 @@ pub record Spot : Type 0 where
   pub place : ℕ
   pub bytes : List ℕ
 
--- The spot at which a cursor stands on a tape.
-abbrev pub spot : List ℕ → Cursor → Spot
-spot tape at = record { place = at.place; bytes = take (at.end - at.place) (drop at.place tape) }
-
 -- The spot that many bytes on.
 abbrev pub past : ℕ → Spot → Spot
 past count here = record { place = here.place + count; bytes = drop count here.bytes }
 
--- A cursor stands on a tape: its place is not past its end, nor that past the tape's.
-abbrev pub On : List ℕ → Cursor → Type 0
-On tape at = (at.place ≤ at.end) × (at.end ≤ length tape)
-
--- An answer of the reader's code, with the spot of the cursor that it gives.
-abbrev pub told : {X E : Type 0} → List ℕ → Result (X × Cursor) E → Result (X × Spot) E
-told tape (Ok x) = Ok (x.0, spot tape x.1)
-told tape (Err fault) = Err fault
+-- What a reader answers, with the spot at which it stands then. After a fault nothing more is read.
+abbrev pub told : {X E : Type 0} → Result X E → Spot → Result (X × Spot) E
+told (Ok x) after = Ok (x, after)
+told (Err fault) after = Err fault
 
 -- What is read next, unless what came before is at fault.
 abbrev pub and_then : {X Y E : Type 0} → Result (X × Spot) E → (X → Spot → Result Y E) → Result Y E

@@ -7,7 +7,7 @@ ghost use Rattle.tape.specs.declared.fault.ProgramFault.TheVariants.{Item, Headi
 use tape_number::fault::NumberFault;
 
 // A fault in one item.
-#[derive(Clone, Copy)]
+#[derive(Clone, Copy, PartialEq, Eq, Debug)]
 pub enum ItemFault {
     Number(NumberFault),
     // The tape ends where the item should go on; the place is that end.
@@ -21,7 +21,7 @@ pub enum ItemFault {
 }
 
 // A fault in the heading.
-#[derive(Clone, Copy)]
+#[derive(Clone, Copy, PartialEq, Eq, Debug)]
 pub enum HeadingFault {
     Number(NumberFault),
     // An unknown manager or store; the place is its number's.
@@ -31,7 +31,7 @@ pub enum HeadingFault {
 }
 
 // What ends the reading of a tape before the tape's end.
-#[derive(Clone, Copy)]
+#[derive(Clone, Copy, PartialEq, Eq, Debug)]
 pub enum ProgramFault {
     // More bytes than a tape may have.
     TooLong,

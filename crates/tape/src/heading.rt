@@ -1,14 +1,14 @@
 // The heading of a tape: five numbers that say on which bench the items are played.
-ghost use Rattle.std.specs.Prelude.{◌≡◌, IfOk};
-ghost use Rattle.tape.specs.Spots.{spot, On, told};
-ghost use Rattle.tape.specs.Headings.{fits_store, kind_at, words_at, heading_at};
+ghost use Rattle.std.specs.Prelude.{◌≡◌, ℕ, Option};
+ghost use Rattle.tape.specs.Kinds.{Converts};
+ghost use Rattle.tape.specs.Spots.{told};
+ghost use Rattle.tape.specs.Headings.{kind_at, words_at, heading_at};
 
-use crate::cursor::Cursor;
 use crate::fault::HeadingFault;
-use crate::kind::{Kind, ManagerKind, StoreKind};
-use crate::reader::next_number;
+use crate::kind::{ManagerKind, StoreKind, UnknownKind};
+use crate::reader::Reader;
 
-#[derive(Clone, Copy)]
+#[derive(Clone, Copy, PartialEq, Eq, Debug)]
 pub struct Heading {
     pub manager: ManagerKind,
     pub store: StoreKind,
@@ -20,57 +20,41 @@ pub struct Heading {
     pub rank: u32,
 }
 
-// Whether a book in such a store can have so many words.
-fn is_fit(store: StoreKind, words: u32) -> bool
-    ensures { result ≡ fits_store store words }
-{
-    words >= 1 && words <= store.most_words()
-}
-
-// The kind whose number stands where the cursor stands, and the cursor behind it.
-fn next_kind<K: Kind>(tape: &[u8], at: Cursor) -> Result<(K, Cursor), HeadingFault>
-    requires { On tape.now at }
-    ensures value { told tape.now result ≡ kind_at K.numbered (spot tape.now at) }
-    ensures stands { IfOk result (λ x. On tape.now x.1) }
-{
-    let (number, after) = next_number(tape, at)?;
-    match K::from_number(number) {
-        Some(kind) => Ok((kind, after)),
-        None => Err(HeadingFault::Kind { place: at.place }),
+impl Reader<'_> {
+    // Takes the number that stands here, for the kind that it names.
+    fn next_kind<K: TryFrom<u32, Error = UnknownKind>>(&mut self) -> Result<K, HeadingFault>
+        ensures { (kind_of : ℕ → Option K) → Converts K.try_from_gives kind_of → told result self.new ≡ kind_at kind_of self.old }
+    {
+        let place = self.place();
+        let number = self.next_number()?;
+        K::try_from(number).map_err(|_| HeadingFault::Kind { place })
     }
-}
 
-// The number of words where the cursor stands, for a book in such a store, and the cursor behind it.
-fn next_words(store: StoreKind, tape: &[u8], at: Cursor) -> Result<(u32, Cursor), HeadingFault>
-    requires { On tape.now at }
-    ensures value { told tape.now result ≡ words_at store (spot tape.now at) }
-    ensures stands { IfOk result (λ x. On tape.now x.1) }
-{
-    let (words, after) = next_number(tape, at)?;
-    if is_fit(store, words) {
-        Ok((words, after))
-    } else {
-        Err(HeadingFault::Words { place: at.place })
+    // Takes the number of words that stands here, for a book in such a store.
+    fn next_words(&mut self, store: StoreKind) -> Result<u32, HeadingFault>
+        ensures { told result self.new ≡ words_at store self.old }
+    {
+        let place = self.place();
+        let words = self.next_number()?;
+        if store.fits(words) {
+            Ok(words)
+        } else {
+            Err(HeadingFault::Words { place })
+        }
     }
-}
 
-// The heading where the cursor stands, and the cursor behind it.
-pub(crate) fn next_heading(tape: &[u8], at: Cursor) -> Result<(Heading, Cursor), HeadingFault>
-    requires { On tape.now at }
-    ensures value { told tape.now result ≡ heading_at (spot tape.now at) }
-    ensures stands { IfOk result (λ x. On tape.now x.1) }
-{
-    let (manager, at) = next_kind(tape, at)?;
-    let (store, at) = next_kind(tape, at)?;
-    let (words, at) = next_words(store, tape, at)?;
-    let (commit, at) = next_number(tape, at)?;
-    let (rank, at) = next_number(tape, at)?;
-    let heading = Heading {
-        manager,
-        store,
-        words,
-        commit,
-        rank,
-    };
-    Ok((heading, at))
+    // Takes the heading that stands here.
+    pub(crate) fn next_heading(&mut self) -> Result<Heading, HeadingFault>
+        ensures { told result self.new ≡ heading_at self.old }
+    {
+        let manager = self.next_kind()?;
+        let store = self.next_kind()?;
+        Ok(Heading {
+            manager,
+            store,
+            words: self.next_words(store)?,
+            commit: self.next_number()?,
+            rank: self.next_number()?,
+        })
+    }
 }

@@ -1,18 +1,16 @@
 // The items of a tape: calls on the bench, and remarks.
-ghost use Rattle.std.specs.Prelude.{◌≡◌, ◌<◌, ◌≤◌, length, IfOk};
-ghost use Rattle.tape.specs.Spots.{spot, On};
+ghost use Rattle.std.specs.Prelude.{◌≡◌, ◌≤◌, length};
 ghost use Rattle.tape.specs.Items.{printable, printable_front, remark_length, told_item, remark_of, remark_at, fields_at, item_at};
 
-use crate::cursor::Cursor;
 use crate::fault::ItemFault;
 use crate::kind::ItemKind;
-use crate::reader::{bytes_left, next_bytes, next_number};
+use crate::reader::Reader;
 
 // The most bytes that a remark may have.
 const MOST_REMARK: u32 = 80;
 
 // An item, as it stands on a tape. The bytes of a remark are a part of that tape.
-#[derive(Clone, Copy)]
+#[derive(Clone, Copy, PartialEq, Eq, Debug)]
 pub enum Item<'a> {
     Start { job: u32 },
     Read { job: u32, word: u32 },
@@ -28,14 +26,14 @@ pub enum Item<'a> {
 fn is_printable(b: u8) -> bool
     ensures { result ≡ printable b }
 {
-    b >= b' ' && b <= b'~'
+    (b' '..=b'~').contains(&b)
 }
 
 // Whether a remark may have such a length.
 fn is_remark_length(len: u32) -> bool
     ensures { result ≡ remark_length len }
 {
-    len >= 1 && len <= MOST_REMARK
+    (1..=MOST_REMARK).contains(&len)
 }
 
 // How many bytes at the front may all stand in a remark.
@@ -43,116 +41,89 @@ fn count_printable(bytes: &[u8]) -> usize
     ensures value { result ≡ printable_front bytes.now }
     ensures within { result ≤ length bytes.now }
 {
-    for (i, b) in bytes.iter().enumerate() {
-        if !is_printable(*b) {
-            return i;
-        }
-    }
-    bytes.len()
+    bytes.iter().take_while(|b| is_printable(**b)).count()
 }
 
-// The remark of `len` bytes where the cursor stands, and the cursor behind it; `place` is where the length stands.
-fn remark_of<'a>(
-    place: usize,
-    len: u32,
-    tape: &'a [u8],
-    at: Cursor,
-) -> Result<(Item<'a>, Cursor), ItemFault>
-    requires { On tape.now at }
-    ensures value { told_item tape.now result ≡ remark_of place len (spot tape.now at) }
-    ensures stands { IfOk result (λ x. On tape.now x.1) }
-{
-    if !is_remark_length(len) {
-        return Err(ItemFault::Length { place });
+impl<'a> Reader<'a> {
+    // Takes the remark of `len` bytes that stands here; `place` is where the length stands.
+    fn remark_of(&mut self, place: usize, len: u32) -> Result<Item<'a>, ItemFault>
+        ensures { told_item result self.new ≡ remark_of place len self.old }
+    {
+        if !is_remark_length(len) {
+            return Err(ItemFault::Length { place });
+        }
+        let len = len as usize;
+        let first = self.place();
+        let left = self.rest().len();
+        if left < len {
+            return Err(ItemFault::Cut {
+                place: first + left,
+            });
+        }
+        let bytes = self.next_bytes(len);
+        let good = count_printable(bytes);
+        if good < len {
+            return Err(ItemFault::Byte {
+                place: first + good,
+            });
+        }
+        Ok(Item::Remark(bytes))
     }
-    let len = len as usize;
-    let left = bytes_left(tape, at);
-    if left < len {
-        return Err(ItemFault::Cut {
-            place: at.place + left,
-        });
-    }
-    let bytes = next_bytes(tape, at, len);
-    let good = count_printable(bytes);
-    if good < len {
-        return Err(ItemFault::Byte {
-            place: at.place + good,
-        });
-    }
-    Ok((Item::Remark(bytes), at.ahead(len)))
-}
 
-// The remark whose length stands where the cursor stands, and the cursor behind it.
-fn next_remark<'a>(tape: &'a [u8], at: Cursor) -> Result<(Item<'a>, Cursor), ItemFault>
-    requires { On tape.now at }
-    ensures value { told_item tape.now result ≡ remark_at (spot tape.now at) }
-    ensures stands { IfOk result (λ x. On tape.now x.1) }
-{
-    let (len, after) = next_number(tape, at)?;
-    remark_of(at.place, len, tape, after)
-}
-
-// The item of a kind whose fields begin where the cursor stands, and the cursor behind it.
-fn next_fields<'a>(
-    kind: ItemKind,
-    tape: &'a [u8],
-    at: Cursor,
-) -> Result<(Item<'a>, Cursor), ItemFault>
-    requires { On tape.now at }
-    ensures value { told_item tape.now result ≡ fields_at kind (spot tape.now at) }
-    ensures stands { IfOk result (λ x. On tape.now x.1) }
-{
-    match kind {
-        ItemKind::Start => {
-            let (job, at) = next_number(tape, at)?;
-            Ok((Item::Start { job }, at))
-        }
-        ItemKind::Read => {
-            let (job, at) = next_number(tape, at)?;
-            let (word, at) = next_number(tape, at)?;
-            Ok((Item::Read { job, word }, at))
-        }
-        ItemKind::Write => {
-            let (job, at) = next_number(tape, at)?;
-            let (word, at) = next_number(tape, at)?;
-            let (value, at) = next_number(tape, at)?;
-            Ok((Item::Write { job, word, value }, at))
-        }
-        ItemKind::Seal => {
-            let (job, at) = next_number(tape, at)?;
-            Ok((Item::Seal { job }, at))
-        }
-        ItemKind::Put => {
-            let (job, at) = next_number(tape, at)?;
-            Ok((Item::Put { job }, at))
-        }
-        ItemKind::Quit => {
-            let (job, at) = next_number(tape, at)?;
-            Ok((Item::Quit { job }, at))
-        }
-        ItemKind::Look => {
-            let (job, at) = next_number(tape, at)?;
-            Ok((Item::Look { job }, at))
-        }
-        ItemKind::Remark => next_remark(tape, at),
+    // Takes the remark whose length stands here.
+    fn next_remark(&mut self) -> Result<Item<'a>, ItemFault>
+        ensures { told_item result self.new ≡ remark_at self.old }
+    {
+        let place = self.place();
+        let len = self.next_number()?;
+        self.remark_of(place, len)
     }
-}
 
-// The item where the cursor stands, and the cursor behind it.
-pub(crate) fn next_item<'a>(tape: &'a [u8], at: Cursor) -> Result<(Item<'a>, Cursor), ItemFault>
-    requires { On tape.now at }
-    ensures value { told_item tape.now result ≡ item_at (spot tape.now at) }
-    ensures stands { IfOk result (λ x. On tape.now x.1) }
-{
-    let Cursor { place, end } = at;
-    match &tape[place..end] {
-        [] => Err(ItemFault::Cut { place }),
-        [code, rest @ ..] => {
-            let Some(kind) = ItemKind::from_code(*code) else {
-                return Err(ItemFault::Code { place });
-            };
-            let place = end - rest.len();
-            next_fields(kind, tape, Cursor { place, end })
+    // Takes the item of a kind whose fields stand here.
+    fn next_fields(&mut self, kind: ItemKind) -> Result<Item<'a>, ItemFault>
+        ensures { told_item result self.new ≡ fields_at kind self.old }
+    {
+        Ok(match kind {
+            ItemKind::Start => Item::Start {
+                job: self.next_number()?,
+            },
+            ItemKind::Read => Item::Read {
+                job: self.next_number()?,
+                word: self.next_number()?,
+            },
+            ItemKind::Write => Item::Write {
+                job: self.next_number()?,
+                word: self.next_number()?,
+                value: self.next_number()?,
+            },
+            ItemKind::Seal => Item::Seal {
+                job: self.next_number()?,
+            },
+            ItemKind::Put => Item::Put {
+                job: self.next_number()?,
+            },
+            ItemKind::Quit => Item::Quit {
+                job: self.next_number()?,
+            },
+            ItemKind::Look => Item::Look {
+                job: self.next_number()?,
+            },
+            ItemKind::Remark => self.next_remark()?,
+        })
+    }
+
+    // Takes the item that stands here.
+    pub(crate) fn next_item(&mut self) -> Result<Item<'a>, ItemFault>
+        ensures { told_item result self.new ≡ item_at self.old }
+    {
+        let place = self.place();
+        match self.rest() {
+            [] => Err(ItemFault::Cut { place }),
+            [code, fields @ ..] => {
+                let kind = ItemKind::try_from(*code).map_err(|_| ItemFault::Code { place })?;
+                self.leave(fields.len());
+                self.next_fields(kind)
+            }
         }
     }
 }

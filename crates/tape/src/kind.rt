@@ -1,15 +1,15 @@
 // The kinds that a tape names by numbers.
-ghost use Rattle.std.specs.Prelude.{◌≡◌, ℕ, Option};
-ghost use Rattle.tape.specs.Kinds.{manager_of, store_of, item_kind_of, most_words};
+ghost use Rattle.std.specs.Prelude.{◌≡◌, ◌&&◌};
+ghost use Rattle.tape.specs.Kinds.{named, manager_of, store_of, item_kind_of, most_words};
+ghost use Rattle.tape.specs.Headings.{fits_store};
 
-// The most words that a store has.
-const STORE_WORDS: u32 = 4096;
+use book::MOST_WORDS;
 
 // The word of the byte store below it at which a window begins.
-const WINDOW_START: u32 = 16;
+const WINDOW_START: usize = 16;
 
 // The contention managers, which decide which job yields to which.
-#[derive(Clone, Copy)]
+#[derive(Clone, Copy, PartialEq, Eq, Debug)]
 pub enum ManagerKind {
     Timid,
     TwoPhase,
@@ -17,7 +17,7 @@ pub enum ManagerKind {
 }
 
 // The stores, in which the book's words are kept.
-#[derive(Clone, Copy)]
+#[derive(Clone, Copy, PartialEq, Eq, Debug)]
 pub enum StoreKind {
     // 32-bit numbers.
     Number,
@@ -28,7 +28,7 @@ pub enum StoreKind {
 }
 
 // The kinds of items.
-#[derive(Clone, Copy)]
+#[derive(Clone, Copy, PartialEq, Eq, Debug)]
 pub enum ItemKind {
     Start,
     Read,
@@ -40,67 +40,76 @@ pub enum ItemKind {
     Remark,
 }
 
-// A kind that the heading names by a number.
-pub(crate) trait Kind: Sized {
-    ghost numbered: { ℕ → Option Self };
+// No kind goes by that number.
+#[derive(Clone, Copy, PartialEq, Eq, Debug)]
+pub struct UnknownKind;
 
-    fn from_number(number: u32) -> Option<Self>
-        ensures { result ≡ numbered number };
-}
+impl TryFrom<u32> for ManagerKind {
+    type Error = UnknownKind;
 
-impl Kind for ManagerKind {
-    ghost numbered = { manager_of };
+    ghost try_from_gives = { λ number kind. kind ≡ named (manager_of number) };
 
-    fn from_number(number: u32) -> Option<ManagerKind> {
+    fn try_from(number: u32) -> Result<ManagerKind, UnknownKind> {
         match number {
-            0 => Some(ManagerKind::Timid),
-            1 => Some(ManagerKind::TwoPhase),
-            2 => Some(ManagerKind::Greedy),
-            _ => None,
+            0 => Ok(ManagerKind::Timid),
+            1 => Ok(ManagerKind::TwoPhase),
+            2 => Ok(ManagerKind::Greedy),
+            _ => Err(UnknownKind),
         }
     }
 }
 
-impl Kind for StoreKind {
-    ghost numbered = { store_of };
+impl TryFrom<u32> for StoreKind {
+    type Error = UnknownKind;
 
-    fn from_number(number: u32) -> Option<StoreKind> {
+    ghost try_from_gives = { λ number kind. kind ≡ named (store_of number) };
+
+    fn try_from(number: u32) -> Result<StoreKind, UnknownKind> {
         match number {
-            0 => Some(StoreKind::Number),
-            1 => Some(StoreKind::Byte),
-            2 => Some(StoreKind::Window),
-            _ => None,
+            0 => Ok(StoreKind::Number),
+            1 => Ok(StoreKind::Byte),
+            2 => Ok(StoreKind::Window),
+            _ => Err(UnknownKind),
+        }
+    }
+}
+
+// The kind of item that begins with a code.
+impl TryFrom<u8> for ItemKind {
+    type Error = UnknownKind;
+
+    ghost try_from_gives = { λ code kind. kind ≡ named (item_kind_of code) };
+
+    fn try_from(code: u8) -> Result<ItemKind, UnknownKind> {
+        match code {
+            1 => Ok(ItemKind::Start),
+            2 => Ok(ItemKind::Read),
+            3 => Ok(ItemKind::Write),
+            4 => Ok(ItemKind::Seal),
+            5 => Ok(ItemKind::Put),
+            6 => Ok(ItemKind::Quit),
+            7 => Ok(ItemKind::Look),
+            8 => Ok(ItemKind::Remark),
+            _ => Err(UnknownKind),
         }
     }
 }
 
 impl StoreKind {
     // The most words that a book in such a store has.
-    pub(crate) fn most_words(self) -> u32
+    fn most_words(self) -> usize
         ensures { result ≡ most_words self }
     {
         match self {
-            StoreKind::Number | StoreKind::Byte => STORE_WORDS,
-            StoreKind::Window => STORE_WORDS - WINDOW_START,
+            StoreKind::Number | StoreKind::Byte => MOST_WORDS,
+            StoreKind::Window => MOST_WORDS - WINDOW_START,
         }
     }
-}
 
-impl ItemKind {
-    // The kind of item that begins with a code.
-    pub(crate) fn from_code(code: u8) -> Option<ItemKind>
-        ensures { result ≡ item_kind_of code }
+    // Whether a book in such a store can have so many words.
+    pub(crate) fn fits(self, words: u32) -> bool
+        ensures { result ≡ fits_store self words }
     {
-        match code {
-            1 => Some(ItemKind::Start),
-            2 => Some(ItemKind::Read),
-            3 => Some(ItemKind::Write),
-            4 => Some(ItemKind::Seal),
-            5 => Some(ItemKind::Put),
-            6 => Some(ItemKind::Quit),
-            7 => Some(ItemKind::Look),
-            8 => Some(ItemKind::Remark),
-            _ => None,
-        }
+        (1..=self.most_words()).contains(&(words as usize))
     }
 }

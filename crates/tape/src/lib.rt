@@ -3,7 +3,6 @@
 
 ghost use Rattle.tape.specs.Figures.{NumberFigures};
 
-mod cursor;
 pub mod fault;
 pub mod heading;
 pub mod item;

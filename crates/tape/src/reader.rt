@@ -1,25 +1,33 @@
-// Reading bytes and numbers where a cursor stands.
-ghost use Rattle.std.specs.Prelude.{◌≡◌, ℕ, ◌+◌, ◌^◌, ◌<◌, ◌≤◌, List, length, take, IfOk};
+// Reading a tape from its front.
+ghost use Rattle.std.specs.Prelude.{◌≡◌, ◌+◌, ◌-◌, ◌^◌, ◌<◌, ◌≤◌, length, take, OnErr};
 ghost use Rattle.tape_number.specs.Numbers.{number_place};
 ghost use Rattle.tape.specs.Faults.{shifted};
-ghost use Rattle.tape.specs.Spots.{spot, past, On, told, number_at};
+ghost use Rattle.tape.specs.Spots.{past, told, number_at};
 
-use crate::cursor::Cursor;
+use std::marker::Model;
 use tape_number::fault::NumberFault;
 use tape_number::number::decode;
 
-impl Cursor {
-    // The cursor `count` bytes on.
-    pub(crate) fn ahead(self, count: usize) -> Cursor
-        requires { self.place + count ≤ self.end }
-        ensures moved { (tape : List ℕ) → spot tape result ≡ past count (spot tape self) }
-        ensures within { (result.place ≤ result.end) × (result.end ≡ self.end) }
-    {
-        Cursor {
-            place: self.place + count,
-            end: self.end,
-        }
-    }
+// Where a reader stands on a tape.
+#[derive(Drop)]
+pub(crate) struct Reader<'a> {
+    tape: &'a [u8],
+    // The place of the byte that comes next.
+    place: usize,
+    // The place where the tape ends for the reader.
+    end: usize,
+}
+
+// Contracts see the spot: the place, and the bytes from there to the end.
+impl<'a> Model for Reader<'a> {
+    ghost use Rattle.std.specs.Prelude.{◌-◌, ◌≤◌, length, take, drop};
+    ghost use Rattle.tape.specs.Spots.{Spot};
+
+    ghost Value = { Spot };
+
+    ghost view = { λ r. record { place = r.place; bytes = take (r.end - r.place) (drop r.place r.tape.now) } };
+
+    ghost invariant = { λ r. (r.place ≤ r.end) × (r.end ≤ length r.tape.now) };
 }
 
 // A fault as it is told where `before` bytes stand in front of those that were read.
@@ -34,34 +42,60 @@ fn shift(fault: NumberFault, before: usize) -> NumberFault
     }
 }
 
-// How many bytes there are from the cursor to its end.
-pub(crate) fn bytes_left(tape: &[u8], at: Cursor) -> usize
-    requires { On tape.now at }
-    ensures value { result ≡ length (spot tape.now at).bytes }
-    ensures sum { at.place + result ≡ at.end }
-{
-    at.end - at.place
-}
+impl<'a> Reader<'a> {
+    // A reader at the front of a tape.
+    pub(crate) fn new(tape: &'a [u8]) -> Reader<'a>
+        ensures { result ≡ record { place = 0; bytes = tape.now } }
+    {
+        Reader {
+            tape,
+            place: 0,
+            end: tape.len(),
+        }
+    }
 
-// The next `count` bytes.
-pub(crate) fn next_bytes<'a>(tape: &'a [u8], at: Cursor, count: usize) -> &'a [u8]
-    requires { (On tape.now at) × (at.place + count ≤ at.end) }
-    ensures value { result.now ≡ take count (spot tape.now at).bytes }
-    ensures len { length result.now ≡ count }
-{
-    let place = at.place;
-    &tape[place..place + count]
-}
+    // The place of the byte that comes next.
+    pub(crate) fn place(&self) -> usize
+        ensures value { result ≡ self.now.place }
+        ensures within { result + length self.now.bytes < 2 ^ 64 }
+    {
+        self.place
+    }
 
-// The number where the cursor stands, and the cursor behind it.
-pub(crate) fn next_number(tape: &[u8], at: Cursor) -> Result<(u32, Cursor), NumberFault>
-    requires { On tape.now at }
-    ensures value { told tape.now result ≡ number_at (spot tape.now at) }
-    ensures stands { IfOk result (λ x. On tape.now x.1) }
-{
-    let Cursor { place, end } = at;
-    match decode(&tape[place..end]) {
-        Ok((value, taken)) => Ok((value, at.ahead(taken))),
-        Err(fault) => Err(shift(fault, place)),
+    // The bytes from there on.
+    pub(crate) fn rest(&self) -> &'a [u8]
+        ensures { result.now ≡ self.now.bytes }
+    {
+        &self.tape[self.place..self.end]
+    }
+
+    // Goes on until only `left` bytes are left.
+    pub(crate) fn leave(&mut self, left: usize)
+        requires { left ≤ length self.old.bytes }
+        ensures { self.new ≡ past (length self.old.bytes - left) self.old }
+    {
+        self.place = self.end - left;
+    }
+
+    // Takes the next `count` bytes.
+    pub(crate) fn next_bytes(&mut self, count: usize) -> &'a [u8]
+        requires { count ≤ length self.old.bytes }
+        ensures bytes { result.now ≡ take count self.old.bytes }
+        ensures after { self.new ≡ past count self.old }
+    {
+        let place = self.place;
+        self.place += count;
+        &self.tape[place..self.place]
+    }
+
+    // Takes the number that stands here; where it is at fault, nothing is taken.
+    pub(crate) fn next_number(&mut self) -> Result<u32, NumberFault>
+        ensures number { told result self.new ≡ number_at self.old }
+        ensures fault { OnErr result (self.new ≡ self.old) }
+    {
+        let place = self.place;
+        let (value, taken) = decode(self.rest()).map_err(|fault| shift(fault, place))?;
+        self.place += taken;
+        Ok(value)
     }
 }

@@ -1,16 +1,15 @@
 // Reading a whole tape.
-ghost use Rattle.std.specs.Prelude.{◌≡◌, ◌+◌, ◌-◌, ◌≤◌, [], ◌++◌, map, length, IfOk, None, vec_len, vec_capacity, nat_lt};
+ghost use Rattle.std.specs.Prelude.{◌≡◌, ◌+◌, ◌≤◌, [], ◌++◌, map, length, IfOk, None, vec_len, vec_capacity, nat_lt};
 ghost use Rattle.std.specs.Result.{result_err};
 ghost use Rattle.tape.specs.Faults.{most_bytes};
-ghost use Rattle.tape.specs.Spots.{spot, On};
 ghost use Rattle.tape.specs.Items.{said};
 ghost use Rattle.tape.specs.Laws.{OneTape};
 ghost use Rattle.tape.specs.Tapes.{items_at, in_program, reading, stopped, tape_says, faulty_item};
 
-use crate::cursor::Cursor;
-use crate::fault::ProgramFault;
-use crate::heading::{Heading, next_heading};
-use crate::item::{Item, next_item};
+use crate::fault::{ItemFault, ProgramFault};
+use crate::heading::Heading;
+use crate::item::Item;
+use crate::reader::Reader;
 use crate::refusal::MOST_BYTES;
 use std::alloc::{AllocError, Global};
 
@@ -31,20 +30,14 @@ fn is_too_long(bytes: &[u8]) -> bool
     bytes.len() > MOST_BYTES
 }
 
-// Adds the items from the cursor on to `items`, which has room for them, up to the tape's end or the first fault.
-fn read_items<'a>(
-    bytes: &'a [u8],
-    mut at: Cursor,
-    items: &mut Vec<Item<'a>>,
-) -> Result<(), ProgramFault>
-    requires { (On bytes.now at) × (vec_len items.old + (at.end - at.place) ≤ vec_capacity items.old) }
-    ensures items { map said items.new.items ≡ map said items.old.items ++ (items_at (spot bytes.now at)).items }
-    ensures fault { result_err result ≡ in_program (items_at (spot bytes.now at)).fault }
+// Adds the items that a reader still has to `items`, which has room for them, up to the tape's end or the first fault.
+fn read_items<'a>(mut reader: Reader<'a>, items: &mut Vec<Item<'a>>) -> Result<(), ItemFault>
+    requires { vec_len items.old + length reader.bytes ≤ vec_capacity items.old }
+    ensures items { map said items.new.items ≡ map said items.old.items ++ (items_at reader.entry).items }
+    ensures fault { result_err result ≡ (items_at reader.entry).fault }
 {
-    while at.place < at.end {
-        let (item, after) = next_item(bytes, at)?;
-        items.push_reserved(item);
-        at = after;
+    while !reader.rest().is_empty() {
+        items.push_reserved(reader.next_item()?);
     }
     Ok(())
 }
@@ -61,13 +54,10 @@ impl<'a> Tape<'a> {
         if is_too_long(bytes) {
             return Err(ProgramFault::TooLong);
         }
-        let start = Cursor {
-            place: 0,
-            end: bytes.len(),
-        };
-        let (heading, at) = next_heading(bytes, start)?;
-        self.heading = Some(heading);
-        read_items(bytes, at, &mut self.items)
+        let mut reader = Reader::new(bytes);
+        self.heading = Some(reader.next_heading()?);
+        read_items(reader, &mut self.items)?;
+        Ok(())
     }
 
     // The number of the item at fault, 0 where it is the heading, or the whole tape.

@@ -1,32 +1,13 @@
 // Under which number, and at which place, a fault is told.
 ghost use Rattle.std.specs.Prelude.{◌≡◌};
-ghost use Rattle.tape.specs.Faults.{refusal_number, number_refusal, item_refusal, item_place, heading_refusal, heading_place, program_refusal, program_place};
+ghost use Rattle.tape.specs.Faults.{number_refusal, item_refusal, item_place, heading_refusal, heading_place, program_refusal, program_place};
 
 use crate::fault::{HeadingFault, ItemFault, ProgramFault};
+use book::Refusal;
 use tape_number::fault::NumberFault;
 
 // The most bytes that a tape may have.
 pub const MOST_BYTES: usize = 16_384;
-
-// The refusals that the maker of a tape can meet.
-#[derive(Clone, Copy)]
-pub enum Refusal {
-    BadLength = 7,
-    CutShort = 9,
-    BadNumber = 10,
-    Unknown = 11,
-    TooLong = 12,
-    BadRemark = 13,
-}
-
-impl Refusal {
-    // The number under which the refusal is told.
-    pub fn number(self) -> u8
-        ensures { result ≡ refusal_number self }
-    {
-        self as u8
-    }
-}
 
 // The refusal that a number's fault meets.
 fn number_refusal(fault: NumberFault) -> Refusal

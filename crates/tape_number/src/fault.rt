@@ -2,7 +2,7 @@ ghost use Rattle.std.specs.Prelude.{◌≡◌};
 ghost use Rattle.tape_number.specs.Numbers.{number_place};
 
 // A fault in one number. Its place is counted in bytes from 0.
-#[derive(Clone, Copy)]
+#[derive(Clone, Copy, PartialEq, Eq, Debug)]
 pub enum NumberFault {
     // The bytes end before the number does; the place is where they end.
     Cut { place: usize },

@@ -1,18 +1,13 @@
-use Rattle.std.proofs.Common.{sym, ◌∙◌, arith}
-use Rattle.tape.proofs.Remarks.{front_more, front_stop, front_all}
+use Rattle.std.proofs.Common.{◌∙◌, rules}
+use Rattle.std.proofs.lemmas.Iterator.{YieldsList-from_slice}
+use Rattle.std.proofs.lemmas.Iterator.Consumers.{count_from_yields_List}
+use Rattle.std.proofs.lemmas.Iterator.Search.{YieldsList-from_take_while}
+use Rattle.std.proofs.lemmas.List.Folds.{length-prefix_len}
+use Rattle.tape.specs.Items.{printable}
 use Rattle.tape.proofs.item.count_printable.Goals as goal
 
-pub returns-then-not-is_printable : goal.returns-then-not-is_printable
-returns-then-not-is_printable c =
-    record {
-      value = sym (c.loop-i.invariant ∙ front_stop c.args.bytes.now c.loop-i.i c.loop-i-test.true (sym c.if-not-is_printable.ensures));
-      within = omega arith;
-    }
-
-pub loop-i-preserved : goal.loop-i-preserved
-loop-i-preserved c = c.loop-i.invariant ∙ front_more c.args.bytes.now c.loop-i.i c.loop-i-test.true (sym c.if-not-is_printable.ensures)
-
-pub returns : goal.returns
-returns c =
-    let e = front_all c.args.bytes.now c.loop-i.i c.loop-i-test.false in
-    record { value = omega (arith, c.loop-i.invariant, e); within = omega arith }
+pub returns-clause-value : goal.returns-clause-value
+returns-clause-value c =
+    count_from_yields_List c.take_while.result c.count.result c.count.ensures.ran
+    (YieldsList-from_take_while _ printable (YieldsList-from_slice c.args.bytes.now (search rules)) c.take_while.ensures.closure c.take_while.ensures.done (λ x b q k. search rules))
+    ∙ length-prefix_len printable c.args.bytes.now

@@ -1,6 +1,6 @@
 use Rattle.std.proofs.Common.{rules}
 use Rattle.tape.specs.Items.{remark_at}
-use Rattle.tape.proofs.item.next_remark.Goals as goal
+use Rattle.tape.proofs.reader.Reader.next_remark.Goals as goal
 
 pub returns-in_err-len : goal.returns-in_err-len
 unfolding remark_at
