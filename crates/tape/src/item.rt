@@ -71,6 +71,7 @@ impl<'a> Reader<'a> {
     }
 
     // Takes the remark whose length stands here.
+    #[tactic(auto, unfolding(crate::specs::Items::remark_at))]
     fn next_remark(&mut self) -> Result<Item<'a>, ItemFault>
         ensures { told_item result self.new ≡ remark_at self.old }
     {
@@ -113,6 +114,7 @@ impl<'a> Reader<'a> {
     }
 
     // Takes the item that stands here.
+    #[tactic(auto, using(crate::proofs::Codes::item_none, crate::proofs::Codes::item_some), unfolding(crate::specs::Items::item_at))]
     pub(crate) fn next_item(&mut self) -> Result<Item<'a>, ItemFault>
         ensures { told_item result self.new ≡ item_at self.old }
     {

@@ -12,6 +12,7 @@ pub mod reading;
 pub mod refusal;
 
 // Shows the figures by which the definitions of tape numbers can be judged.
+#[tactic(auto, unfolding(tape_number::specs::Numbers::byte_form, tape_number::specs::Numbers::read_number))]
 pub fn figures()
     ensures { NumberFigures }
 {}

@@ -72,6 +72,7 @@ impl<'a> Tape<'a> {
 }
 
 // What a tape says, or how far it can be read; the one error is want of memory.
+#[tactic(auto, using(crate::proofs::Wholes::one_tape))]
 pub fn read_tape<'a>(heap: Global, bytes: &'a [u8]) -> Result<Tape<'a>, AllocError>
     ensures says { IfOk result (λ tape. reading tape ≡ tape_says bytes.now) }
     ensures law { OneTape }

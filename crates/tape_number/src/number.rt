@@ -57,6 +57,7 @@ fn next_weight(weight: u32) -> u32
 }
 
 // The number at the front of some bytes, and how many of them it takes.
+#[tactic(auto, using(crate::proofs::Forms::one_form))]
 pub fn decode(bytes: &[u8]) -> Result<(u32, usize), NumberFault>
     ensures value { result ≡ read_number bytes.now }
     ensures within { MatchResult result (λ x. (0 < x.1) × (x.1 ≤ length bytes.now)) (λ f. number_place f ≤ length bytes.now) }
@@ -81,6 +82,7 @@ pub fn decode(bytes: &[u8]) -> Result<(u32, usize), NumberFault>
 }
 
 // Adds the byte form of a number to `out`; without memory for it, `out` stays as it was.
+#[tactic(auto, using(crate::proofs::Forms::one_form))]
 pub fn encode(value: u32, out: &mut Vec<u8>) -> Result<(), AllocError>
     ensures form { out.new.items ≡ (if is_ok result then out.old.items ++ byte_form value else out.old.items) }
     ensures room { vec_len out.old + (last_group + 1) ≤ vec_capacity out.old → is_ok result ≡ true }

@@ -1,13 +1,7 @@
 use Rattle.std.proofs.Common.{◌≡◌, ℕ, zero, suc, ◌+◌, ◌/◌, ◌%◌, ◌<◌, ◌≤◌, List, [], ◌∷◌, ◌++◌, vec_items, sym, refl, ap, ◌∙◌, append_assoc, add_comm, arith}
-use Rattle.std.proofs.lemmas.Result.{err_from_is_err_and}
 use Rattle.tape_number.specs.Numbers.{form_in, byte_form}
-use Rattle.tape_number.proofs.Forms.{limit, one_byte, more_bytes, one_form}
+use Rattle.tape_number.proofs.Forms.{limit, one_byte, more_bytes}
 use Rattle.tape_number.proofs.number.encode.Goals as goal
-
-pub returns-in_err-reserve : goal.returns-in_err-reserve
-returns-in_err-reserve c =
-    let p = err_from_is_err_and c.from_residual.result c.from_residual.ensures.1 in
-    record { form = rw p.1 c.reserve.ensures.items; room = λ h. let full = c.in_err-reserve.ensures.full in absurd (omega arith); law = one_form }
 
 pub loop-rest-init : goal.loop-rest-init
 unfolding byte_form
@@ -31,9 +25,9 @@ loop-rest-preserved c =
     let s = step i.0 c.loop-rest.rest _ _ _ _ _ c.loop-rest-test.true i.1 i.2 i.3 (c.push_reserved.ensures.items ∙ ap (λ b. vec_items c.loop-rest.out ++ b ∷ []) c.high_byte.ensures) in
     (s.0, s.1, rw (c.push_reserved.ensures.len, c.push_reserved.ensures.capacity) s.2, s.3)
 
-pub returns : goal.returns
-returns c =
+pub returns-clause-form : goal.returns-clause-form
+returns-clause-form c =
     let i = c.loop-rest.invariant in
     let last : vec_items c.loop-rest.out ++ form_in (suc i.0) c.loop-rest.rest ≡ vec_items c.push_reserved-2.new.self =
     ap (λ xs. vec_items c.loop-rest.out ++ xs) (one_byte i.0 c.loop-rest.rest c.loop-rest-test.false) ∙ sym c.push_reserved-2.ensures.items in
-    record { form = sym (ap (λ xs. xs ++ byte_form c.args.value) (sym c.reserve.ensures.items) ∙ i.3 ∙ last); room = λ h. refl; law = one_form }
+    sym (ap (λ xs. xs ++ byte_form c.args.value) (sym c.reserve.ensures.items) ∙ i.3 ∙ last)

@@ -2,24 +2,8 @@ use Rattle.std.proofs.Common.{◌≡◌, ℕ, ◌-◌, ◌<◌, List, length, ge
 use Rattle.tape.specs.Spots.{past}
 use Rattle.tape.specs.Kinds.{item_kind_of}
 use Rattle.tape.specs.Items.{item_at, coded, fields_at}
-use Rattle.tape.proofs.Codes.{item_none, item_some, all_but_first}
+use Rattle.tape.proofs.Codes.{item_some, all_but_first}
 use Rattle.tape.proofs.reader.Reader.next_item.Goals as goal
-
-pub returns-in_err-kind-in-len1-up : goal.returns-in_err-kind-in-len1-up
-unfolding item_at
-returns-in_err-kind-in-len1-up c =
-    let here = c.args.self.now in
-    let some : 0 < length here.bytes = search rules in
-    let e = item_some here.place here.bytes some in
-    search rules
-
-pub returns-in-empty : goal.returns-in-empty
-unfolding item_at
-returns-in-empty c =
-    let here = c.args.self.now in
-    let none : length here.bytes ≡ 0 = search rules in
-    let e = item_none here.place here.bytes none in
-    search rules
 
 pub returns-in_ok-kind-in-len1-up : goal.returns-in_ok-kind-in-len1-up
 unfolding item_at
