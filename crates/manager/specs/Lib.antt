@@ -1,4 +1,3 @@
 pub mod Figures
 pub mod Ranks
 pub mod Rules
-pub mod Tables

@@ -1,5 +1,5 @@
 // What a manager is told at which it may give a rank.
-#[derive(Clone, Copy)]
+#[derive(Clone, Copy, Debug, PartialEq, Eq)]
 pub enum Event {
     // A job began a transaction.
     Began { job: usize },

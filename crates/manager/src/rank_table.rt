@@ -1,36 +1,30 @@
 // The ranks, in one text for all managers.
-ghost use Rattle.std.specs.Prelude.{◌≡◌, true, nat_lt};
-ghost use Rattle.manager.specs.Ranks.{after_end, after_event, last_number, no_ranks, rank_of, yields_to};
-ghost use Rattle.manager.specs.Tables.{table_ranks};
+ghost use Rattle.std.specs.Prelude.{◌≡◌, true, length};
+ghost use Rattle.manager.specs.Ranks.{Ranks, after_end, after_event, jobs, no_ranks, rank_of, yields_to};
 
 use crate::JOBS;
+use std::marker::Model;
 
-mod table;
-
-pub use table::RankTable;
-
-// Whether a job with the one rank yields to a job with the other.
-fn yields_to(rank: Option<u32>, other: Option<u32>) -> bool
-    ensures { result ≡ yields_to rank other }
-{
-    match (rank, other) {
-        (None, _) => true,
-        (Some(_), None) => false,
-        (Some(mine), Some(theirs)) => theirs < mine,
-    }
+// The ranks of the eight jobs, and the next number.
+#[derive(Drop)]
+pub struct RankTable {
+    ranks: [Option<u32>; JOBS],
+    next: u32,
 }
 
-// Whether this number can be given as a rank.
-fn is_left(next: u32) -> bool
-    ensures { result ≡ nat_lt next last_number }
-{
-    next < u32::MAX
+// A table is seen as what a manager means.
+impl Model for RankTable {
+    ghost Value = { Ranks };
+
+    ghost view = { λ table. record { of_jobs = table.ranks; next = table.next } };
+
+    ghost invariant = { λ table. length table.ranks ≡ jobs };
 }
 
 impl RankTable {
     // No job has a rank.
     pub fn new(next: u32) -> RankTable
-        ensures { table_ranks result ≡ no_ranks next }
+        ensures { result ≡ no_ranks next }
     {
         RankTable {
             ranks: [None; JOBS],
@@ -40,12 +34,11 @@ impl RankTable {
 
     // Gives a job the next number, where it is a job without a rank and a number is left.
     pub fn give(&mut self, job: usize)
-        ensures { table_ranks self.new ≡ after_event true job (table_ranks self.old) }
+        ensures { self.new ≡ after_event true job self.old }
     {
-        if job >= JOBS || !is_left(self.next) {
-            return;
-        }
-        if let None = self.ranks[job] {
+        if let Some(None) = self.ranks.get(job)
+            && self.next < u32::MAX
+        {
             self.ranks[job] = Some(self.next);
             self.next += 1;
         }
@@ -53,8 +46,9 @@ impl RankTable {
 
     // Takes a job's rank away.
     pub fn take_away(&mut self, job: usize)
-        ensures { table_ranks self.new ≡ after_end job (table_ranks self.old) }
+        ensures { self.new ≡ after_end job self.old }
     {
+        // By its index: of an array that was lent to `get_mut` no proof knows what it holds afterwards.
         if job < JOBS {
             self.ranks[job] = None;
         }
@@ -62,22 +56,22 @@ impl RankTable {
 
     // The job's rank, if it has one.
     pub fn rank(&self, job: usize) -> Option<u32>
-        ensures { result ≡ rank_of job (table_ranks self.now) }
+        ensures { result ≡ rank_of job self.now }
     {
-        if job < JOBS { self.ranks[job] } else { None }
+        self.ranks.get(job).copied().flatten()
     }
 
     // The number that the next rank is.
     pub fn next(&self) -> u32
-        ensures { result ≡ (table_ranks self.now).next }
+        ensures { result ≡ self.now.next }
     {
         self.next
     }
 
-    // Whether the first job yields to the second.
+    // Whether the first job yields to the second: it has no rank, or the other's is lower.
     pub fn yields(&self, job: usize, other: usize) -> bool
-        ensures { result ≡ yields_to (rank_of job (table_ranks self.now)) (rank_of other (table_ranks self.now)) }
+        ensures { result ≡ yields_to (rank_of job self.now) (rank_of other self.now) }
     {
-        yields_to(self.rank(job), self.rank(other))
+        self.rank(job).is_none_or(|mine| self.rank(other).is_some_and(|theirs| theirs < mine))
     }
 }

@@ -1,8 +1,6 @@
 // A manager made of the ranks and a rule for when one is given.
-ghost use Rattle.std.specs.Prelude.{◌≡◌, ◌≤◌};
-ghost use Rattle.manager.specs.Ranks.{Apart, BelowNext, last_number, no_ranks};
-ghost use Rattle.manager.specs.Tables.{table_ranks};
-ghost use Rattle.std.proofs.Common.{rules};
+ghost use Rattle.std.specs.Prelude.{◌≡◌};
+ghost use Rattle.manager.specs.Ranks.{Lawful, after_event, no_ranks};
 
 use crate::ContentionManager;
 use crate::event::Event;
@@ -14,41 +12,45 @@ use crate::rules::RankRule;
 pub struct Ranked<R> {
     table: RankTable,
     rule: R,
-    ghost fits: { table.next ≤ last_number },
-    ghost below: { BelowNext table.ranks table.next },
-    ghost apart: { Apart table.ranks },
+    ghost lawful: { Lawful table },
 }
 
 impl<R: RankRule> Ranked<R> {
     // A manager with that rule under which no job has a rank yet.
     pub fn new(rule: R, next: u32) -> Ranked<R>
         ensures rule { result.rule ≡ rule }
-        ensures ranks { table_ranks result.table ≡ no_ranks next }
+        ensures ranks { result.table ≡ no_ranks next }
     {
         Ranked {
             table: RankTable::new(next),
             rule,
         }
     }
-}
 
-impl<R: RankRule> ContentionManager for Ranked<R> {
-    ghost ranks = { λ m. table_ranks m.table };
-
-    ghost gives = { λ m event. R.gives m.rule event };
-
-    ghost lawful = { Prim.search rules };
-
-    fn began(&mut self, job: usize) {
-        if self.rule.gives_rank(Event::Began { job }) {
+    // Tells the manager of an event at a job: the job may get a rank.
+    fn tell(&mut self, job: usize, event: Event)
+        ensures rule { self.new.rule ≡ self.old.rule }
+        ensures ranks { self.new.table ≡ after_event (R.gives self.old.rule event) job self.old.table }
+    {
+        if self.rule.gives_rank(event) {
             self.table.give(job);
         }
     }
+}
+
+impl<R: RankRule> ContentionManager for Ranked<R> {
+    ghost ranks = { λ m. m.table };
+
+    ghost gives = { λ m event. R.gives m.rule event };
+
+    ghost lawful = { λ m. m.lawful };
+
+    fn began(&mut self, job: usize) {
+        self.tell(job, Event::Began { job });
+    }
 
     fn wrote(&mut self, job: usize, length: usize) {
-        if self.rule.gives_rank(Event::Wrote { job, length }) {
-            self.table.give(job);
-        }
+        self.tell(job, Event::Wrote { job, length });
     }
 
     fn ended(&mut self, job: usize) {

@@ -18,15 +18,15 @@ pub trait RankRule {
 }
 
 // Never: every job yields to every other.
-#[derive(Clone, Copy)]
+#[derive(Clone, Copy, Debug, PartialEq, Eq)]
 pub struct Timid;
 
 // When a job writes its tenth word, and at no other: small jobs yield at once, large ones go by seniority.
-#[derive(Clone, Copy)]
+#[derive(Clone, Copy, Debug, PartialEq, Eq)]
 pub struct TwoPhase;
 
 // When a job begins: all jobs go by seniority.
-#[derive(Clone, Copy)]
+#[derive(Clone, Copy, Debug, PartialEq, Eq)]
 pub struct Greedy;
 
 impl RankRule for Timid {
@@ -41,10 +41,7 @@ impl RankRule for TwoPhase {
     ghost gives = { λ _ event. two_phase_gives event };
 
     fn gives_rank(&self, event: Event) -> bool {
-        match event {
-            Event::Began { .. } => false,
-            Event::Wrote { length, .. } => length == TWO_PHASE_LENGTH,
-        }
+        matches!(event, Event::Wrote { length, .. } if length == TWO_PHASE_LENGTH)
     }
 }
 
@@ -52,9 +49,6 @@ impl RankRule for Greedy {
     ghost gives = { λ _ event. greedy_gives event };
 
     fn gives_rank(&self, event: Event) -> bool {
-        match event {
-            Event::Began { .. } => true,
-            Event::Wrote { .. } => false,
-        }
+        matches!(event, Event::Began { .. })
     }
 }

@@ -1,3 +1,0 @@
-pub mod Changes
-pub mod Endings
-pub mod Keeping
