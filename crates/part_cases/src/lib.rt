@@ -156,16 +156,17 @@ mod tests {
     fn ranks(rt: HostRuntime) {
         let mut manager = Ranked::new(Greedy, u32::MAX - 2);
         manager.began(7);
-        assert!(rt; manager.rank(7) == Some(u32::MAX - 2));
+        assert_eq!(rt; manager.rank(7), Some(u32::MAX - 2));
         manager.ended(7);
-        assert!(rt; manager.rank(7).is_none());
+        assert_eq!(rt; manager.rank(7), None);
         manager.began(7);
         manager.began(0);
         manager.began(8);
         manager.ended(8);
-        assert!(rt; manager.rank(7) == Some(u32::MAX - 1));
-        assert!(rt; manager.rank(0).is_none() && manager.rank(8).is_none());
-        assert!(rt; manager.next_rank() == u32::MAX);
+        assert_eq!(rt; manager.rank(7), Some(u32::MAX - 1));
+        assert_eq!(rt; manager.rank(0), None);
+        assert_eq!(rt; manager.rank(8), None);
+        assert_eq!(rt; manager.next_rank(), u32::MAX);
     }
 
     // How many words a job has written, and whether two-phase gives it a rank then.
@@ -183,7 +184,7 @@ mod tests {
             let mut manager = Ranked::new(TwoPhase, 1);
             manager.began(3);
             manager.wrote(3, length);
-            assert!(rt; manager.rank(3).is_some() == gives);
+            assert_eq!(rt; manager.rank(3).is_some(), gives);
         }
     }
 
@@ -207,10 +208,11 @@ mod tests {
         manager.began(2);
         manager.began(1);
         manager.ended(2);
-        assert!(rt; manager.rank(0) == Some(3) && manager.rank(1) == Some(5));
-        assert!(rt; manager.next_rank() == 6);
+        assert_eq!(rt; manager.rank(0), Some(3));
+        assert_eq!(rt; manager.rank(1), Some(5));
+        assert_eq!(rt; manager.next_rank(), 6);
         for (job, other, yields) in YIELDING {
-            assert!(rt; manager.yields(job, other) == yields);
+            assert_eq!(rt; manager.yields(job, other), yields);
         }
     }
 }

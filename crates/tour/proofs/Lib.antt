@@ -1,2 +1,1 @@
-mod Always
 mod Within

@@ -5,11 +5,12 @@ ghost use Rattle.tour.specs.ManagerSteps.{ToldThrough, answer_of, ranks_after};
 
 use manager::ending::end_all;
 use manager::ranked::Ranked;
-use manager::rules::{Greedy, Timid, TwoPhase};
+use manager::rules::{Greedy, RankRule, Timid, TwoPhase};
 use manager::{ContentionManager, JOBS};
 use std::{fmt, io};
 
 // What a manager can be told or asked.
+// A step is data and no closure: it is printed, and definitions go by its cases.
 #[derive(Clone, Copy)]
 pub enum ManagerStep {
     Began { job: usize },
@@ -87,8 +88,8 @@ fn show_story<M: ContentionManager>(
 ) -> io::Result<()>
     ensures { OnOk result ((last : Ranks) × ToldThrough story.now (M.ranks manager.old) last × (M.ranks manager.new ≡ no_ranks last.next)) }
 {
-    for step in story {
-        show_step(rt, manager, *step)?;
+    for &step in story {
+        show_step(rt, manager, step)?;
     }
     end_all(manager);
     let line = RankLine(&*manager);
@@ -99,7 +100,7 @@ fn show_story<M: ContentionManager>(
 const FIRST_RANK: u32 = u32::MAX - 2;
 
 // What is told to every manager.
-const STORY: [ManagerStep; 20] = [
+const STORY: &[ManagerStep] = &[
     ManagerStep::Began { job: 0 },
     ManagerStep::Began { job: 0 },
     ManagerStep::Began { job: 1 },
@@ -122,12 +123,15 @@ const STORY: [ManagerStep; 20] = [
     ManagerStep::Yields { job: 0, other: 8 },
 ];
 
+// Tells the story to a new manager with this rule, after the manager's name.
+fn show_rule<R: RankRule + Drop>(rt: &impl Print, name: &str, rule: R) -> io::Result<()> {
+    println!(rt; "{name}")?;
+    show_story(rt, &mut Ranked::new(rule, FIRST_RANK), STORY)
+}
+
 // Tells the story to every manager.
 pub fn show(rt: &impl Print) -> io::Result<()> {
-    println!(rt; "Timid")?;
-    show_story(rt, &mut Ranked::new(Timid, FIRST_RANK), &STORY)?;
-    println!(rt; "two-phase")?;
-    show_story(rt, &mut Ranked::new(TwoPhase, FIRST_RANK), &STORY)?;
-    println!(rt; "Greedy")?;
-    show_story(rt, &mut Ranked::new(Greedy, FIRST_RANK), &STORY)
+    show_rule(rt, "Timid", Timid)?;
+    show_rule(rt, "two-phase", TwoPhase)?;
+    show_rule(rt, "Greedy", Greedy)
 }
