@@ -1,13 +1,32 @@
--- A text that is written piece by piece, from what is left of a list.
-use Rattle.std.proofs.Common.{◌≡◌, ℕ, ◌+◌, ◌<◌, ◌≤◌, List, [], ◌∷◌, ◌++◌, length, get_or, drop, sym, ap, ◌∙◌, append_assoc, append-nil}
-use Rattle.std.proofs.lemmas.List.{at_drop_more, at_drop_all}
+-- Texts of lists that grow by an element at the end.
+use Rattle.std.proofs.Common.{◌≡◌, ℕ, ◌+◌, ◌<◌, List, [], ◌∷◌, ◌++◌, get_or, length, map, take, refl, sym, ap, ◌∙◌, append_assoc, append-nil, arith}
+use Rattle.std.proofs.lemmas.Grind.{put_two}
+use Rattle.std.proofs.lemmas.List.{take_more, map-append, length-map, length-take}
+use Rattle.std.proofs.lemmas.Str.{encodes-append}
+use lib.Utf8.{encode}
+use Rattle.tape.specs.declared.item.Item.{Item}
+use Rattle.tape.specs.declared.item.Item.TheVariants.{Start}
+use Rattle.tape.specs.Items.{Said, said}
+use Rattle.listing.specs.Lines.{remark_text, item_line, item_lines}
 
--- One piece more: F is the text of what was left, and G that of what is left behind the piece.
-pub one_more : {X : Type 0} (F G : List X → List ℕ) (piece : List ℕ) (xs : List X) (d : X) (was now all : List ℕ) (i : ℕ) → i < length xs
-    → F (get_or xs i d ∷ drop (i + 1) xs) ≡ piece ++ G (drop (i + 1) xs) → all ≡ was ++ F (drop i xs) → now ≡ was ++ piece → all ≡ now ++ G (drop (i + 1) xs)
-one_more F G piece xs d was now all i h split e f =
-    e ∙ ap (λ (bs : List ℕ). was ++ bs) (at_drop_more F xs i d h ∙ split) ∙ sym (append_assoc was piece (G (drop (i + 1) xs))) ∙ ap (λ (bs : List ℕ). bs ++ G (drop (i + 1) xs)) (sym f)
+-- One byte more of a remark.
+pub remark_more : (bytes : List ℕ) (i : ℕ) → i < length bytes → remark_text (take (i + 1) bytes) ≡ remark_text (take i bytes) ++ encode (get_or bytes i 0)
+remark_more bytes i h =
+    ap remark_text (take_more bytes i 0 h) ∙ encodes-append (take i bytes) (get_or bytes i 0 ∷ [])
+    ∙ ap (λ x. remark_text (take i bytes) ++ x) (append-nil (encode (get_or bytes i 0)))
 
--- No piece is left.
-pub no_more : {X : Type 0} (F : List X → List ℕ) (xs : List X) (now all : List ℕ) (i : ℕ) → length xs ≤ i → F [] ≡ [] → all ≡ now ++ F (drop i xs) → now ≡ all
-no_more F xs now all i h none e = sym (e ∙ ap (λ (bs : List ℕ). now ++ bs) (at_drop_all F xs i h ∙ none) ∙ append-nil now)
+-- The line of an item behind some others.
+line_more : (number : ℕ) (items : List Said) (it : Said) → item_lines number (items ++ it ∷ []) ≡ item_lines number items ++ item_line (number + length items) it
+line_more number [] it = grind (arith, append-nil)
+line_more number (first ∷ items) it = grind (arith, line_more (number + 1) items it, append_assoc)
+
+-- One item more of a tape's.
+pub lines_more : (items : List Item) (i : ℕ) → i < length items
+    → item_lines 1 (map said (take (i + 1) items)) ≡ item_lines 1 (map said (take i items)) ++ item_line (i + 1) (said (get_or items i (Start 0)))
+lines_more items i h =
+    ap (λ x. item_lines 1 (map said x)) (take_more items i (Start 0) h) ∙ ap (item_lines 1) (map-append said (take i items) (get_or items i (Start 0) ∷ []))
+    ∙ line_more 1 (map said (take i items)) (said (get_or items i (Start 0)))
+    ∙ ap (λ n. item_lines 1 (map said (take i items)) ++ item_line n (said (get_or items i (Start 0)))) (grind (arith, length-map, length-take))
+
+pub ruleset remark_grows = (put_two, remark_more)
+pub ruleset lines_grow = (put_two, lines_more, append_assoc)

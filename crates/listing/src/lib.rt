@@ -1,21 +1,20 @@
 // What is listed of a tape: its heading in words, a line for each item, and how it ends.
 #![tactic(auto)]
 
-ghost use Rattle.std.specs.Prelude.{◌≡◌, ◌++◌, map, IfOk, Some, string_bytes, OnOk};
+ghost use Rattle.std.specs.Prelude.{◌≡◌, map, IfOk, Some, string_bytes};
 ghost use Rattle.tape.specs.Items.{said};
 ghost use Rattle.tape.specs.Tapes.{reading, tape_says};
-ghost use Rattle.listing.specs.Lines.{manager_name, store_name, heading_text, first_line, remark_text, item_text, item_line, item_lines, last_line, listing_text, RemarksStand};
+ghost use Rattle.listing.specs.Lines.{manager_name, store_name, heading_text, first_line, remark_text, item_text, item_lines, last_line, listing_text, RemarksStand};
 
-use std::alloc::Global;
+use std::alloc::{AllocError, Global};
 use std::fmt;
-use std::fmt::Write;
 use tape::heading::Heading;
 use tape::item::Item;
 use tape::kind::{ManagerKind, StoreKind};
 use tape::reading::{Tape, read_tape};
 
-// Something of a heading, in the words of a listing.
-#[derive(Clone, Copy)]
+// A part of a tape, or a whole tape, in the words of a listing.
+#[derive(Clone, Copy, Debug)]
 pub struct InWords<T>(pub T);
 
 impl fmt::Display for InWords<ManagerKind> {
@@ -61,111 +60,115 @@ impl fmt::Display for InWords<Heading> {
     }
 }
 
-// The functions below add to `text`; where one finds no memory, what it leaves there is of no use.
+// A remark, a character for each byte.
+#[derive(Clone, Copy)]
+struct Remark<'a>(&'a [u8]);
 
-// Adds the heading's line to `text`, if there is a heading.
-fn write_heading(text: &mut String, heading: Option<Heading>) -> fmt::Result
-    ensures { OnOk result (string_bytes text.new ≡ string_bytes text.old ++ first_line heading) }
-{
-    if let Some(heading) = heading {
-        let heading = InWords(heading);
-        writeln!(text, "heading: {heading}")?;
-    }
-    Ok(())
-}
+impl fmt::Display for Remark<'_> {
+    ghost output = { λ x. Some (remark_text x.0.now) };
 
-// Adds a remark to `text`, a character for each byte.
-fn write_remark(text: &mut String, bytes: &[u8]) -> fmt::Result
-    ensures { OnOk result (string_bytes text.new ≡ string_bytes text.old ++ remark_text bytes.now) }
-{
-    for b in bytes {
-        let c = char::from(*b);
-        write!(text, "{c}")?;
-    }
-    Ok(())
-}
-
-// Adds what an item says to `text`.
-fn write_item(text: &mut String, item: Item) -> fmt::Result
-    ensures { OnOk result (string_bytes text.new ≡ string_bytes text.old ++ item_text (said item.entry)) }
-{
-    match item {
-        Item::Start { job } => write!(text, "start {job}")?,
-        Item::Read { job, word } => write!(text, "read {job} {word}")?,
-        Item::Write { job, word, value } => write!(text, "write {job} {word} {value}")?,
-        Item::Seal { job } => write!(text, "seal {job}")?,
-        Item::Put { job } => write!(text, "put {job}")?,
-        Item::Quit { job } => write!(text, "quit {job}")?,
-        Item::Look { job } => write!(text, "look {job}")?,
-        Item::Remark(bytes) => write_remark(text, bytes)?,
-    }
-    Ok(())
-}
-
-// Adds an item's line to `text`.
-fn write_line(text: &mut String, number: usize, item: Item) -> fmt::Result
-    ensures { OnOk result (string_bytes text.new ≡ string_bytes text.old ++ item_line number (said item.entry)) }
-{
-    write!(text, "{number} ")?;
-    write_item(text, item)?;
-    writeln!(text)?;
-    Ok(())
-}
-
-// Adds a line for each item to `text`, numbered from 1.
-fn write_lines(text: &mut String, items: &[Item]) -> fmt::Result
-    ensures { OnOk result (string_bytes text.new ≡ string_bytes text.old ++ item_lines 1 (map said items.now)) }
-{
-    for (i, item) in items.iter().enumerate() {
-        write_line(text, i + 1, *item)?;
-    }
-    Ok(())
-}
-
-// Adds the last line to `text`: the number of items, or the fault.
-fn write_end(text: &mut String, tape: &Tape) -> fmt::Result
-    ensures { OnOk result (string_bytes text.new ≡ string_bytes text.old ++ last_line (reading tape.now)) }
-{
-    match tape.fault {
-        None => {
-            let count = tape.items.len();
-            writeln!(text, "end {count}")?;
+    #[tactic(auto, using(crate::proofs::Growing::remark_grows))]
+    fn fmt<W: fmt::Write>(&self, f: &mut fmt::Formatter<W>) -> fmt::Result {
+        for b in self.0 {
+            f.write_char(char::from(*b))?;
         }
-        Some(fault) => {
-            let number = fault.refusal().number();
-            let place = fault.place();
-            let item = tape.faulty_item();
-            writeln!(text, "fault {number} {place} {item}")?;
+        Ok(())
+    }
+}
+
+// What an item says: the call's name and its numbers, or the remark.
+impl fmt::Display for InWords<Item<'_>> {
+    ghost output = { λ x. Some (item_text (said x.0)) };
+
+    fn fmt<W: fmt::Write>(&self, f: &mut fmt::Formatter<W>) -> fmt::Result {
+        match self.0 {
+            Item::Start { job } => write!(f, "start {job}"),
+            Item::Read { job, word } => write!(f, "read {job} {word}"),
+            Item::Write { job, word, value } => write!(f, "write {job} {word} {value}"),
+            Item::Seal { job } => write!(f, "seal {job}"),
+            Item::Put { job } => write!(f, "put {job}"),
+            Item::Quit { job } => write!(f, "quit {job}"),
+            Item::Look { job } => write!(f, "look {job}"),
+            Item::Remark(bytes) => Remark(bytes).fmt(f),
         }
     }
-    Ok(())
+}
+
+// The heading's line, if there is a heading.
+#[derive(Clone, Copy)]
+struct FirstLine(Option<Heading>);
+
+impl fmt::Display for FirstLine {
+    ghost output = { λ x. Some (first_line x.0) };
+
+    fn fmt<W: fmt::Write>(&self, f: &mut fmt::Formatter<W>) -> fmt::Result {
+        match self.0 {
+            Some(heading) => writeln!(f, "heading: {}", InWords(heading)),
+            None => Ok(()),
+        }
+    }
+}
+
+// A line for each item, numbered from 1.
+#[derive(Clone, Copy)]
+struct ItemLines<'a>(&'a [Item<'a>]);
+
+impl fmt::Display for ItemLines<'_> {
+    ghost output = { λ x. Some (item_lines 1 (map said x.0.now)) };
+
+    #[tactic(auto, using(crate::proofs::Growing::lines_grow))]
+    fn fmt<W: fmt::Write>(&self, f: &mut fmt::Formatter<W>) -> fmt::Result {
+        for (i, item) in self.0.iter().enumerate() {
+            writeln!(f, "{} {}", i + 1, InWords(*item))?;
+        }
+        Ok(())
+    }
+}
+
+// The last line: the number of items, or the fault.
+#[derive(Clone, Copy)]
+struct LastLine<'a>(&'a Tape<'a>);
+
+impl fmt::Display for LastLine<'_> {
+    ghost output = { λ x. Some (last_line (reading x.0.now)) };
+
+    fn fmt<W: fmt::Write>(&self, f: &mut fmt::Formatter<W>) -> fmt::Result {
+        match self.0.fault {
+            None => writeln!(f, "end {}", self.0.items.len()),
+            Some(fault) => {
+                let number = fault.refusal().number();
+                let place = fault.place();
+                let item = self.0.faulty_item();
+                writeln!(f, "fault {number} {place} {item}")
+            }
+        }
+    }
+}
+
+impl fmt::Display for InWords<&Tape<'_>> {
+    ghost output = { λ x. Some (listing_text (reading x.0.now)) };
+
+    fn fmt<W: fmt::Write>(&self, f: &mut fmt::Formatter<W>) -> fmt::Result {
+        let first = FirstLine(self.0.heading);
+        let lines = ItemLines(&self.0.items);
+        let last = LastLine(self.0);
+        write!(f, "{first}{lines}{last}")
+    }
 }
 
 // The listing of a tape; without memory for it, an error.
-pub fn list(heap: Global, tape: &Tape) -> Result<String, fmt::Error>
+pub fn list(heap: Global, tape: &Tape) -> Result<String, AllocError>
     ensures { IfOk result (λ text. string_bytes text ≡ listing_text (reading tape.now)) }
 {
-    let mut text = String::new(heap);
-    write_heading(&mut text, tape.heading)?;
-    write_lines(&mut text, &tape.items)?;
-    write_end(&mut text, tape)?;
-    Ok(text)
+    InWords(tape).to_string(heap)
 }
 
-// What is listed of the tape that some bytes are; without memory for it, an error.
-fn read_and_list(heap: Global, bytes: &[u8]) -> Result<String, fmt::Error>
-    ensures { IfOk result (λ text. string_bytes text ≡ listing_text (tape_says bytes.now)) }
-{
-    let Ok(tape) = read_tape(heap, bytes) else {
-        return Err(fmt::Error);
-    };
-    list(heap, &tape)
-}
-
-// The same, with the promise that each remark is listed as it stands on the tape.
-pub fn list_bytes(heap: Global, bytes: &[u8]) -> Result<String, fmt::Error>
+// What is listed of the tape that some bytes are, each remark as it stands there; without memory for it, an error.
+#[tactic(auto, using(crate::proofs::Stands::remarks_stand))]
+pub fn list_bytes(heap: Global, bytes: &[u8]) -> Result<String, AllocError>
     ensures text { IfOk result (λ text. string_bytes text ≡ listing_text (tape_says bytes.now)) }
     ensures remarks { RemarksStand }
 {
-    read_and_list(heap, bytes)
+    let tape = read_tape(heap, bytes)?;
+    list(heap, &tape)
 }
