@@ -94,65 +94,26 @@ impl fmt::Display for InWords<Item<'_>> {
     }
 }
 
-// The heading's line, if there is a heading.
-#[derive(Clone, Copy)]
-struct FirstLine(Option<Heading>);
-
-impl fmt::Display for FirstLine {
-    ghost output = { λ x. Some (first_line x.0) };
-
-    fn fmt<W: fmt::Write>(&self, f: &mut fmt::Formatter<W>) -> fmt::Result {
-        match self.0 {
-            Some(heading) => writeln!(f, "heading: {}", InWords(heading)),
-            None => Ok(()),
-        }
-    }
-}
-
-// A line for each item, numbered from 1.
-#[derive(Clone, Copy)]
-struct ItemLines<'a>(&'a [Item<'a>]);
-
-impl fmt::Display for ItemLines<'_> {
-    ghost output = { λ x. Some (item_lines 1 (map said x.0.now)) };
-
-    #[tactic(auto, using(crate::proofs::Growing::lines_grow))]
-    fn fmt<W: fmt::Write>(&self, f: &mut fmt::Formatter<W>) -> fmt::Result {
-        for (i, item) in self.0.iter().enumerate() {
-            writeln!(f, "{} {}", i + 1, InWords(*item))?;
-        }
-        Ok(())
-    }
-}
-
-// The last line: the number of items, or the fault.
-#[derive(Clone, Copy)]
-struct LastLine<'a>(&'a Tape<'a>);
-
-impl fmt::Display for LastLine<'_> {
-    ghost output = { λ x. Some (last_line (reading x.0.now)) };
-
-    fn fmt<W: fmt::Write>(&self, f: &mut fmt::Formatter<W>) -> fmt::Result {
-        match self.0.fault {
-            None => writeln!(f, "end {}", self.0.items.len()),
-            Some(fault) => {
-                let number = fault.refusal().number();
-                let place = fault.place();
-                let item = self.0.faulty_item();
-                writeln!(f, "fault {number} {place} {item}")
-            }
-        }
-    }
-}
-
+// The heading's line, if there is a heading; a line for each item, numbered from 1; and how the tape ends.
 impl fmt::Display for InWords<&Tape<'_>> {
     ghost output = { λ x. Some (listing_text (reading x.0.now)) };
 
+    #[tactic(auto, using(crate::proofs::Growing::lines_grow))]
     fn fmt<W: fmt::Write>(&self, f: &mut fmt::Formatter<W>) -> fmt::Result {
-        let first = FirstLine(self.0.heading);
-        let lines = ItemLines(&self.0.items);
-        let last = LastLine(self.0);
-        write!(f, "{first}{lines}{last}")
+        let tape = self.0;
+        if let Some(heading) = tape.heading {
+            writeln!(f, "heading: {}", InWords(heading))?;
+        }
+        for (i, item) in tape.items.iter().enumerate() {
+            writeln!(f, "{} {}", i + 1, InWords(*item))?;
+        }
+        match tape.fault {
+            None => writeln!(f, "end {}", tape.items.len()),
+            Some(fault) => {
+                let number = fault.refusal().number();
+                writeln!(f, "fault {number} {} {}", fault.place(), tape.faulty_item())
+            }
+        }
     }
 }
 
