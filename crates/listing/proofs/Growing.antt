@@ -11,9 +11,7 @@ use Rattle.listing.specs.Lines.{remark_text, item_line, item_lines}
 
 -- One byte more of a remark.
 pub remark_more : (bytes : List ℕ) (i : ℕ) → i < length bytes → remark_text (take (i + 1) bytes) ≡ remark_text (take i bytes) ++ encode (get_or bytes i 0)
-remark_more bytes i h =
-    ap remark_text (take_more bytes i 0 h) ∙ encodes-append (take i bytes) (get_or bytes i 0 ∷ [])
-    ∙ ap (λ x. remark_text (take i bytes) ++ x) (append-nil (encode (get_or bytes i 0)))
+remark_more bytes i h = grind (arith, take_more bytes i 0 h, encodes-append, append-nil)
 
 -- The line of an item behind some others.
 line_more : (number : ℕ) (items : List Said) (it : Said) → item_lines number (items ++ it ∷ []) ≡ item_lines number items ++ item_line (number + length items) it
@@ -24,9 +22,7 @@ line_more number (first ∷ items) it = grind (arith, line_more (number + 1) ite
 pub lines_more : (items : List Item) (i : ℕ) → i < length items
     → item_lines 1 (map said (take (i + 1) items)) ≡ item_lines 1 (map said (take i items)) ++ item_line (i + 1) (said (get_or items i (Start 0)))
 lines_more items i h =
-    ap (λ x. item_lines 1 (map said x)) (take_more items i (Start 0) h) ∙ ap (item_lines 1) (map-append said (take i items) (get_or items i (Start 0) ∷ []))
-    ∙ line_more 1 (map said (take i items)) (said (get_or items i (Start 0)))
-    ∙ ap (λ n. item_lines 1 (map said (take i items)) ++ item_line n (said (get_or items i (Start 0)))) (grind (arith, length-map, length-take))
+    grind (arith, take_more items i (Start 0) h, line_more 1 (map said (take i items)) (said (get_or items i (Start 0))), map-append, length-map, length-take)
 
 pub ruleset remark_grows = (put_two, remark_more)
 pub ruleset lines_grow = (put_two, lines_more, append_assoc)

@@ -21,11 +21,11 @@ impl fmt::Display for InWords<ManagerKind> {
     ghost output = { λ x. Some (manager_name x.0) };
 
     fn fmt<W: fmt::Write>(&self, f: &mut fmt::Formatter<W>) -> fmt::Result {
-        match self.0 {
-            ManagerKind::Timid => write!(f, "Timid"),
-            ManagerKind::TwoPhase => write!(f, "two-phase"),
-            ManagerKind::Greedy => write!(f, "Greedy"),
-        }
+        f.write_str(match self.0 {
+            ManagerKind::Timid => "Timid",
+            ManagerKind::TwoPhase => "two-phase",
+            ManagerKind::Greedy => "Greedy",
+        })
     }
 }
 
@@ -33,11 +33,11 @@ impl fmt::Display for InWords<StoreKind> {
     ghost output = { λ x. Some (store_name x.0) };
 
     fn fmt<W: fmt::Write>(&self, f: &mut fmt::Formatter<W>) -> fmt::Result {
-        match self.0 {
-            StoreKind::Number => write!(f, "number"),
-            StoreKind::Byte => write!(f, "byte"),
-            StoreKind::Window => write!(f, "window"),
-        }
+        f.write_str(match self.0 {
+            StoreKind::Number => "number",
+            StoreKind::Byte => "byte",
+            StoreKind::Window => "window",
+        })
     }
 }
 
@@ -60,26 +60,11 @@ impl fmt::Display for InWords<Heading> {
     }
 }
 
-// A remark, a character for each byte.
-#[derive(Clone, Copy)]
-struct Remark<'a>(&'a [u8]);
-
-impl fmt::Display for Remark<'_> {
-    ghost output = { λ x. Some (remark_text x.0.now) };
-
-    #[tactic(auto, using(crate::proofs::Growing::remark_grows))]
-    fn fmt<W: fmt::Write>(&self, f: &mut fmt::Formatter<W>) -> fmt::Result {
-        for b in self.0 {
-            f.write_char(char::from(*b))?;
-        }
-        Ok(())
-    }
-}
-
 // What an item says: the call's name and its numbers, or the remark.
 impl fmt::Display for InWords<Item<'_>> {
     ghost output = { λ x. Some (item_text (said x.0)) };
 
+    #[tactic(auto, using(crate::proofs::Growing::remark_grows))]
     fn fmt<W: fmt::Write>(&self, f: &mut fmt::Formatter<W>) -> fmt::Result {
         match self.0 {
             Item::Start { job } => write!(f, "start {job}"),
@@ -89,7 +74,12 @@ impl fmt::Display for InWords<Item<'_>> {
             Item::Put { job } => write!(f, "put {job}"),
             Item::Quit { job } => write!(f, "quit {job}"),
             Item::Look { job } => write!(f, "look {job}"),
-            Item::Remark(bytes) => Remark(bytes).fmt(f),
+            Item::Remark(bytes) => {
+                for b in bytes {
+                    f.write_char(char::from(*b))?;
+                }
+                Ok(())
+            }
         }
     }
 }
@@ -111,7 +101,9 @@ impl fmt::Display for InWords<&Tape<'_>> {
             None => writeln!(f, "end {}", tape.items.len()),
             Some(fault) => {
                 let number = fault.refusal().number();
-                writeln!(f, "fault {number} {} {}", fault.place(), tape.faulty_item())
+                let place = fault.place();
+                let item = tape.faulty_item();
+                writeln!(f, "fault {number} {place} {item}")
             }
         }
     }

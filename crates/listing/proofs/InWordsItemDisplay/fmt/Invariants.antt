@@ -1,8 +1,8 @@
 use Rattle.std.proofs.Common.{take}
 use Rattle.std.specs.Fmt.{HasWritten, IsPlainFormatter}
 use Rattle.listing.specs.Lines.{remark_text}
-use Rattle.listing.proofs.RemarkDisplay.fmt.Given as goal
+use Rattle.listing.proofs.InWordsItemDisplay.fmt.Given as goal
 
 abbrev pub invariant-loop-b : goal.invariant-loop-b
 invariant-loop-b g l =
-    IsPlainFormatter l.initial.f → HasWritten g.W.Write.write_str_gives l.initial.f (remark_text (take l.b-index l.self.0.now)) l.f
+    IsPlainFormatter l.fn.f → HasWritten g.W.Write.write_str_gives l.fn.f (remark_text (take l.b-index l.bytes)) l.f
