@@ -12,4 +12,5 @@ line_more number [] it = grind (arith, append-nil)
 line_more number (first ∷ items) it = grind (arith, line_more (number + 1) items it, append_assoc)
 
 pub ruleset remark_grows = (put_two, take_at_read, encodes-append, append-nil)
+
 pub ruleset lines_grow = (put_two, take_at_read, line_more, map-append, length-map, length-take, append_assoc)

@@ -1,5 +1,5 @@
 -- The lines that are listed of a tape, as bytes.
-use Rattle.std.specs.Prelude.{◌≡◌, ℕ, ◌+◌, List, [], ◌∷◌, ◌++◌, length, Some, None, codes, decimal, Option}
+use Rattle.std.specs.Prelude.{◌≡◌, ℕ, ◌+◌, List, [], ◌∷◌, ◌++◌, length, All, Some, None, codes, decimal, Option}
 use Rattle.std.proofs.Math.Utf8.{encodes}
 use Rattle.tape.specs.declared.fault.ProgramFault.{ProgramFault}
 use Rattle.tape.specs.declared.heading.Heading.{Heading}
@@ -88,11 +88,6 @@ Stands (quit job) = Unit {0}
 Stands (look job) = Unit {0}
 Stands (remark bytes) = item_text (remark bytes) ≡ bytes
 
--- The same of each of some items.
-abbrev pub AllStand : List Said → Type 0
-AllStand [] = Unit {0}
-AllStand (it ∷ items) = Stands it × AllStand items
-
 -- Every remark that is read of a tape is listed as its very bytes.
 abbrev pub RemarksStand : Type 0
-RemarksStand = (tape : List ℕ) → Bytes tape → AllStand (tape_says tape).items
+RemarksStand = (tape : List ℕ) → Bytes tape → All Stands (tape_says tape).items

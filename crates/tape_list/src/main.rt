@@ -8,14 +8,10 @@ use tape::refusal::MOST_BYTES;
 // One byte past the limit shows that a tape is too long, so no more is ever read.
 const MOST_INPUT: u64 = MOST_BYTES as u64 + 1;
 
-fn run(rt: &HostRuntime) -> anyhow::Result<()> {
+fn main(rt: HostRuntime) -> anyhow::Result<()> {
     let mut bytes = Vec::new(rt.alloc());
-    let _ = rt.stdin().take(MOST_INPUT).read_to_end(&mut bytes)?;
+    rt.stdin().take(MOST_INPUT).read_to_end(&mut bytes)?;
     let text = list_bytes(rt.alloc(), &bytes)?;
     print!(rt; "{text}")?;
     Ok(())
-}
-
-fn main(rt: HostRuntime) -> anyhow::Result<()> {
-    run(&rt)
 }
