@@ -1,4 +1,4 @@
--- Texts of lists that grow by an element at the end.
+-- Texts that a loop writes piece by piece.
 use Rattle.std.proofs.Common.{◌≡◌, ℕ, ◌+◌, List, [], ◌∷◌, ◌++◌, length, append_assoc, append-nil, arith}
 use Rattle.std.proofs.lemmas.Grind.{put_two, take_at_read}
 use Rattle.std.proofs.lemmas.List.{map-append, length-map, length-take}
@@ -11,6 +11,8 @@ pub line_more : (number : ℕ) (items : List Said) (it : Said) → item_lines nu
 line_more number [] it = grind (arith, append-nil)
 line_more number (first ∷ items) it = grind (arith, line_more (number + 1) items it, append_assoc)
 
+-- What the loop over a remark's bytes needs.
 pub ruleset remark_grows = (put_two, take_at_read, encodes-append, append-nil)
 
+-- What the loop over a tape's items needs.
 pub ruleset lines_grow = (put_two, take_at_read, line_more, map-append, length-map, length-take, append_assoc)

@@ -8,6 +8,7 @@ use Rattle.tape.proofs.Bytes.{remark_ascii}
 use Rattle.tape.proofs.Wholes.{one_tape}
 use Rattle.listing.specs.Lines.{Stands, RemarksStand}
 
+-- A sound item stands.
 stands : (it : Said) → SoundItem it → Stands it
 stands (start job) s = tt
 stands (read job word) s = tt
@@ -18,6 +19,7 @@ stands (quit job) s = tt
 stands (look job) s = tt
 stands (remark bytes) s = encodes-IsAscii bytes (remark_ascii bytes s.1)
 
+-- So do sound items.
 all_stand : (items : List Said) → SoundItems items → All Stands items
 all_stand [] s = All-nil Stands
 all_stand (it ∷ items) s = All-cons Stands it items (stands it s.0) (all_stand items s.1)

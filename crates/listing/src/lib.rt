@@ -45,17 +45,18 @@ impl fmt::Display for InWords<Heading> {
     ghost output = { λ x. Some (heading_text x.0) };
 
     fn fmt<W: fmt::Write>(&self, f: &mut fmt::Formatter<W>) -> fmt::Result {
-        let manager = InWords(self.0.manager);
-        let store = InWords(self.0.store);
         let Heading {
+            manager,
+            store,
             words,
             commit,
             rank,
-            ..
         } = self.0;
         write!(
             f,
-            "manager {manager}, store {store}, words {words}, commit count {commit}, next rank {rank}"
+            "manager {}, store {}, words {words}, commit count {commit}, next rank {rank}",
+            InWords(manager),
+            InWords(store)
         )
     }
 }
