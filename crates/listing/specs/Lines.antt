@@ -8,7 +8,8 @@ use Rattle.tape.specs.declared.kind.ManagerKind.TheVariants as manager
 use Rattle.tape.specs.declared.kind.StoreKind.{StoreKind}
 use Rattle.tape.specs.declared.kind.StoreKind.TheVariants as store
 use Rattle.tape_number.specs.Numbers.{Bytes}
-use Rattle.tape.specs.Faults.{refusal_number, program_refusal, program_place}
+use Rattle.book.specs.Refusals.{refusal_number}
+use Rattle.tape.specs.Faults.{program_refusal, program_place}
 use Rattle.tape.specs.Items.{Said, start, read, write, seal, put, quit, look, remark}
 use Rattle.tape.specs.Tapes.{Reading, tape_says, faulty_item}
 

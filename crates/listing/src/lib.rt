@@ -101,7 +101,7 @@ impl fmt::Display for InWords<&Tape<'_>> {
         match tape.fault {
             None => writeln!(f, "end {}", tape.items.len()),
             Some(fault) => {
-                let number = fault.refusal().number();
+                let number = u8::from(fault.refusal());
                 let place = fault.place();
                 let item = tape.faulty_item();
                 writeln!(f, "fault {number} {place} {item}")
