@@ -1,10 +1,9 @@
-use Rattle.std.proofs.Common.{◌≡◌, ℕ, ◌+◌, ◌*◌, ◌%◌, ◌^◌, ◌<◌, ◌≤◌, false, List, ◌∷◌, length, get_or, drop, Ok, Err, Result, sym, ap, ◌∙◌, subst, ⊎_elim, arith}
+use Rattle.std.proofs.Common.{◌≡◌, ℕ, ◌+◌, ◌*◌, ◌%◌, ◌^◌, ◌<◌, ◌≤◌, false, List, ◌∷◌, length, get_or, drop, Ok, Err, Result, sym, ap, ◌∙◌, arith}
 use Rattle.std.proofs.lemmas.List.{at_drop_more, at_drop_all}
-use Rattle.std.proofs.lemmas.Bool.{cases_eq}
 use Rattle.tape_number.specs.declared.fault.NumberFault.{NumberFault}
 use Rattle.tape_number.specs.declared.fault.NumberFault.TheVariants.{Cut}
-use Rattle.tape_number.specs.Numbers.{read_groups, read_number, below, over_top}
-use Rattle.tape_number.proofs.Groups.{above, above_below, weight_more, fits_group, weight_fits, low_top, read_high, read_padded, read_last, read_more}
+use Rattle.tape_number.specs.Numbers.{read_groups, read_number, over_top}
+use Rattle.tape_number.proofs.Groups.{above, fits_group, low_top, read_high, read_padded, read_last}
 use Rattle.tape_number.proofs.number.decode.Goals as goal
 
 -- What all the bytes say, from what those say from byte i on.
@@ -47,33 +46,6 @@ returns-then-b-lt-HIGH-clause-value c =
     let d : b ≡ c.group.result = omega arith in
     let e = whole bytes l.i l.weight l.value _ c.loop-i-test.true l.invariant.3 (read_last l.i b (drop (l.i + 1) bytes) (sym c.if-is_over_top.ensures) c.if-b-lt-HIGH.true (sym c.if-is_padded.ensures)) in
     sym (e ∙ ap (λ x. Ok (l.value + x * l.weight, l.i + 1)) d)
-
--- A byte with the high bit is not the fifth.
-before : (i b : ℕ) → i ≤ 4 → false ≡ over_top i b → 128 ≤ b → i ≤ 3
-before i b h top high =
-    ⊎_elim (λ e. let low = low_top i b (sym top) e in absurd (omega arith)) (λ ne. omega arith) (cases_eq i 4)
-
-pub next_weight-weight-requires : goal.next_weight-weight-requires
-next_weight-weight-requires c =
-    let l = c.loop-i in
-    weight_fits l.i l.weight (before l.i _ l.invariant.0 c.if-is_over_top.ensures c.if-b-lt-HIGH.false) l.invariant.1
-
-pub loop-i-preserved : goal.loop-i-preserved
-loop-i-preserved c =
-    let l = c.loop-i in
-    let bytes = c.args.bytes.now in
-    let b = get_or bytes l.i 0 in
-    let rest = read_groups (l.i + 1) (drop (l.i + 1) bytes) in
-    let h = before l.i b l.invariant.0 c.if-is_over_top.ensures c.if-b-lt-HIGH.false in
-    let fit = group-fits l.i l.weight l.value b c.group.result l.invariant.0 l.invariant.1 l.invariant.2 c.group.ensures c.if-is_over_top.ensures in
-    let w : l.weight * 128 ≡ c.next_weight-weight.result = sym c.next_weight-weight.ensures in (
-      omega arith,
-      sym w ∙ weight_more l.i l.weight l.invariant.1,
-      subst (λ n. l.value + c.group.result * l.weight < n) w fit.2,
-      whole bytes l.i l.weight l.value _ c.loop-i-test.true l.invariant.3 (read_more l.i b (drop (l.i + 1) bytes) (sym c.if-is_over_top.ensures) c.if-b-lt-HIGH.false ∙ ap (λ x. below x rest) (sym c.group.ensures))
-          ∙ above_below l.weight l.value c.group.result rest
-          ∙ ap (λ n. above n (l.value + c.group.result * l.weight) rest) w,
-    )
 
 pub returns-clause-value : goal.returns-clause-value
 unfolding read_number
