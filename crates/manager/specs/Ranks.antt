@@ -62,3 +62,8 @@ pub record Lawful (ranks : Ranks) : Type 0 where
   pub fits : ranks.next ≤ last_number
   pub below : BelowNext ranks.of_jobs ranks.next
   pub apart : Apart ranks.of_jobs
+
+-- Ranks that keep the law keep it through every event, whether a rank is given or not, and through every end.
+pub record LawKept : Type 0 where
+  pub by_events : (gives : Bool) (job : ℕ) (ranks : Ranks) → Lawful ranks → Lawful (after_event gives job ranks)
+  pub by_ends : (job : ℕ) (ranks : Ranks) → Lawful ranks → Lawful (after_end job ranks)

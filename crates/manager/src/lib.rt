@@ -4,7 +4,7 @@
 ghost use Rattle.std.specs.Prelude.{◌≡◌, Bool};
 ghost use Rattle.manager.specs.declared.event.Event.{Event};
 ghost use Rattle.manager.specs.declared.event.Event.TheVariants.{Began, Wrote};
-ghost use Rattle.manager.specs.Ranks.{Lawful, Ranks, after_end, after_event, rank_of, yields_to};
+ghost use Rattle.manager.specs.Ranks.{LawKept, Lawful, Ranks, after_end, after_event, rank_of, yields_to};
 ghost use Rattle.manager.specs.Figures.{RankFigures};
 
 pub mod ending;
@@ -56,4 +56,10 @@ pub trait ContentionManager {
 // Shows the figures by which the definition of yielding can be judged.
 pub fn figures()
     ensures { RankFigures }
+{}
+
+// Shows that the law of the ranks is kept whatever is told of the jobs, whoever keeps the ranks.
+#[tactic(auto, using(crate::proofs::Keeping::law_kept))]
+pub fn show_law_kept()
+    ensures { LawKept }
 {}

@@ -1,5 +1,5 @@
 -- One byte of a number: the four ways in which it is read, and what a reading adds to the groups before it.
-use Rattle.std.proofs.Common.{◌≡◌, ℕ, zero, suc, ◌+◌, ◌*◌, ◌%◌, ◌^◌, ◌<◌, ◌≤◌, true, false, List, ◌∷◌, Ok, Err, Result, refl, ap, ⊎_elim, mul_assoc, add-mul, pow-suc, add-one, arith}
+use Rattle.std.proofs.Common.{◌≡◌, ℕ, zero, suc, ◌+◌, ◌*◌, ◌%◌, ◌^◌, ◌<◌, ◌≤◌, true, false, List, ◌∷◌, Ok, Err, Result, ⊎_elim, arith}
 use Rattle.std.proofs.lemmas.Bool.{ne_eqb, lt-ltb, le-ltb, cases_eq, cases_lt, and_right, and_left}
 use Rattle.std.proofs.lemmas.Bool.Decides.{nat_tests}
 use Rattle.tape_number.specs.declared.fault.NumberFault.{NumberFault}
@@ -35,20 +35,6 @@ abbrev pub above : (weight sum : ℕ) → Result (ℕ × ℕ) NumberFault → Re
 above weight sum (Ok x) = Ok (sum + x.0 * weight, x.1)
 above weight sum (Err fault) = Err fault
 
-above_value : (w a d v : ℕ) → a + (d + 128 * v) * w ≡ (a + d * w) + v * (w * 128)
-above_value w a d v = omega (arith, add-mul d (128 * v) w, mul_assoc 128 v w, mul_assoc v w 128)
-
-pub above_below : (w a d : ℕ) (r : Result (ℕ × ℕ) NumberFault) → above w a (below d r) ≡ above (w * 128) (a + d * w) r
-above_below w a d (Ok x) = ap (λ v. Ok (v, x.1)) (above_value w a d x.0)
-above_below w a d (Err fault) = refl
-
-pub above_none : (r : Result (ℕ × ℕ) NumberFault) → above 1 0 r ≡ r
-above_none (Ok x) = let e : 0 + x.0 * 1 ≡ x.0 = omega arith in ap (λ v. Ok (v, x.1)) e
-above_none (Err fault) = refl
-
-pub weight_more : (i w : ℕ) → w ≡ 128 ^ i → w * 128 ≡ 128 ^ (i + 1)
-weight_more i w e = rw (add-one, pow-suc, e)
-
 -- A group fits above what is there: below the fifth, or a fifth of at most 15.
 pub fits_group : (i w a d : ℕ) → i ≤ 4 → w ≡ 128 ^ i → a < w → d < 128 → (i ≡ 4 → d ≤ 15) → (d * w < 2 ^ 32) × (a + d * w < 2 ^ 32) × (a + d * w < w * 128)
 fits_group zero w a d h e l m n = rw e (omega arith, omega arith, omega arith)
@@ -57,13 +43,6 @@ fits_group (suc (suc zero)) w a d h e l m n = rw e (omega arith, omega arith, om
 fits_group (suc (suc (suc zero))) w a d h e l m n = rw e (omega arith, omega arith, omega arith)
 fits_group (suc (suc (suc (suc zero)))) w a d h e l m n = rw e (omega arith, omega arith, omega arith)
 fits_group (suc (suc (suc (suc (suc i))))) w a d h e l m n = absurd (omega arith)
-
-pub weight_fits : (i w : ℕ) → i ≤ 3 → w ≡ 128 ^ i → w * 128 < 2 ^ 32
-weight_fits zero w h e = rw e (omega arith)
-weight_fits (suc zero) w h e = rw e (omega arith)
-weight_fits (suc (suc zero)) w h e = rw e (omega arith)
-weight_fits (suc (suc (suc zero))) w h e = rw e (omega arith)
-weight_fits (suc (suc (suc (suc i)))) w h e = absurd (omega arith)
 
 -- A fault of the later groups is the fault of all.
 pub below_err : (d : ℕ) (r : Result (ℕ × ℕ) NumberFault) (fault : NumberFault) → below d r ≡ Err fault → r ≡ Err fault
