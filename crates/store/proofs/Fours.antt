@@ -1,8 +1,12 @@
 -- Words as bytes, four by four.
-use Rattle.std.proofs.Common.{◌≡◌, ℕ, zero, suc, ◌+◌, ◌*◌, ◌/◌, ◌%◌, ◌^◌, ◌<◌, List, [], ◌∷◌, length, get_or, set, refl, ap, ◌∙◌, mod-eq_of_lt, arith}
+use Rattle.std.proofs.Common.{◌≡◌, ℕ, zero, suc, ◌+◌, ◌*◌, ◌/◌, ◌%◌, ◌^◌, ◌<◌, List, [], ◌∷◌, length, get_or, map, set, w32, refl, ap, mod-eq_of_lt, arith}
 use native.Mathlib.Nat.{div-div-eq-div-mul}
-use Rattle.std.proofs.lemmas.List.{length-set}
-use Rattle.store.specs.Bytes.{bytes_of_words, placed, word_of, words_of_bytes}
+use borrow.Rule.Slice.PartMut.{put_mid}
+use Rattle.std.proofs.lemmas.Grind.{common_steps}
+use Rattle.std.proofs.lemmas.List.{get_or-map}
+use Rattle.std.specs.Int.{from_be_bytes, to_be_bytes}
+use Rattle.std.specs.Simd.{first_chunks}
+use Rattle.store.specs.Bytes.{bytes_of_words, word_of, words_of_bytes}
 
 -- There is a word for every four bytes.
 pub length_words : (bytes : List ℕ) → length (words_of_bytes bytes) ≡ length bytes / 4
@@ -23,46 +27,55 @@ word_of_parts v h =
     let f : v / 65536 ≡ 256 * (v / 16777216) + v / 65536 % 256 = omega arith in
     omega arith
 
--- Four bytes further on.
-four : (a k : ℕ) → 4 * suc a + k ≡ suc (suc (suc (suc (4 * a + k))))
-four a k = omega arith
+-- Four places further on.
+four : (a : ℕ) → 4 * suc a ≡ suc (suc (suc (suc (4 * a))))
+four a = omega arith
 
-four0 : (a : ℕ) → 4 * suc a ≡ suc (suc (suc (suc (4 * a))))
-four0 a = omega arith
+-- The words of bytes are those of their chunks of four.
+words_are_chunks : (bytes : List ℕ) → words_of_bytes bytes ≡ map (from_be_bytes w32) (first_chunks 4 (length bytes / 4) bytes)
+words_are_chunks [] = refl
+words_are_chunks (a ∷ []) = refl
+words_are_chunks (a ∷ b ∷ []) = refl
+words_are_chunks (a ∷ b ∷ c ∷ []) = refl
+words_are_chunks (a ∷ b ∷ c ∷ d ∷ rest) =
+    let n : length (a ∷ b ∷ c ∷ d ∷ rest) / 4 ≡ suc (length rest / 4) = omega arith in
+    let first : word_of a b c d ≡ from_be_bytes w32 (a ∷ b ∷ c ∷ d ∷ []) = omega arith in
+    let others = words_are_chunks rest in
+    rw (n, first, others) refl
 
--- Word a is made of the bytes from place 4a on.
-pub get_or_words : (bytes : List ℕ) (a : ℕ) → a < length bytes / 4 →
-    get_or (words_of_bytes bytes) a 0 ≡ word_of (get_or bytes (4 * a) 0) (get_or bytes (4 * a + 1) 0) (get_or bytes (4 * a + 2) 0) (get_or bytes (4 * a + 3) 0)
-get_or_words [] a h = absurd (omega arith)
-get_or_words (p ∷ []) a h = absurd (omega arith)
-get_or_words (p ∷ q ∷ []) a h = absurd (omega arith)
-get_or_words (p ∷ q ∷ r ∷ []) a h = absurd (omega arith)
-get_or_words (p ∷ q ∷ r ∷ s ∷ rest) zero h = refl
-get_or_words (p ∷ q ∷ r ∷ s ∷ rest) (suc a) h =
+-- So each word is what its chunk says.
+pub word_of_chunk : (bytes : List ℕ) (a : ℕ) (none : List ℕ) → a < length bytes / 4 →
+    get_or (words_of_bytes bytes) a 0 ≡ from_be_bytes w32 (get_or (first_chunks 4 (length bytes / 4) bytes) a none)
+word_of_chunk bytes a none h =
+    let chunks = words_are_chunks bytes in
+    let e = length_words bytes in
+    grind (arith, common_steps, get_or-map)
+
+-- Four bytes put in further on leave the first four.
+put_further : (a p q r s : ℕ) (rest part : List ℕ) →
+    put_mid (4 * suc a) 4 (p ∷ q ∷ r ∷ s ∷ rest) part ≡ p ∷ q ∷ r ∷ s ∷ put_mid (4 * a) 4 rest part
+put_further a p q r s rest part = rw (four a) refl
+
+-- The bytes of a word put in at place 4a make it word a, and the other words stay.
+pub words_put : (bytes : List ℕ) (a v : ℕ) → a < length bytes / 4 → v < 2 ^ 32 →
+    words_of_bytes (put_mid (4 * a) 4 bytes (to_be_bytes w32 v)) ≡ set (words_of_bytes bytes) a v
+words_put [] a v h fits = absurd (omega arith)
+words_put (p ∷ []) a v h fits = absurd (omega arith)
+words_put (p ∷ q ∷ []) a v h fits = absurd (omega arith)
+words_put (p ∷ q ∷ r ∷ []) a v h fits = absurd (omega arith)
+words_put (p ∷ q ∷ r ∷ s ∷ rest) zero v h fits = ap (λ w. w ∷ words_of_bytes rest) (word_of_parts v fits)
+words_put (p ∷ q ∷ r ∷ s ∷ rest) (suc a) v h fits =
     let k : a < length rest / 4 = omega arith in
-    rw (four a 1, four a 2, four a 3, four0 a) (get_or_words rest a k)
+    rw (put_further a p q r s rest (to_be_bytes w32 v)) (ap (λ l. word_of p q r s ∷ l) (words_put rest a v k fits))
 
--- Four bytes put in at place 4a make word a anew, and no other.
-words_set : (bytes : List ℕ) (a w x y z : ℕ) → a < length bytes / 4 →
-    words_of_bytes (set (set (set (set bytes (4 * a) w) (4 * a + 1) x) (4 * a + 2) y) (4 * a + 3) z) ≡ set (words_of_bytes bytes) a (word_of w x y z)
-words_set [] a w x y z h = absurd (omega arith)
-words_set (p ∷ []) a w x y z h = absurd (omega arith)
-words_set (p ∷ q ∷ []) a w x y z h = absurd (omega arith)
-words_set (p ∷ q ∷ r ∷ []) a w x y z h = absurd (omega arith)
-words_set (p ∷ q ∷ r ∷ s ∷ rest) zero w x y z h = refl
-words_set (p ∷ q ∷ r ∷ s ∷ rest) (suc a) w x y z h =
-    let k : a < length rest / 4 = omega arith in
-    rw (four a 1, four a 2, four a 3, four0 a) (ap (λ l. word_of p q r s ∷ l) (words_set rest a w x y z k))
-
--- A word placed at 4a is word a, and the other words stay.
-pub words_placed : (bytes : List ℕ) (a v : ℕ) → a < length bytes / 4 → v < 2 ^ 32 →
-    words_of_bytes (placed bytes (4 * a) v) ≡ set (words_of_bytes bytes) a v
-words_placed bytes a v h fits =
-    words_set bytes a _ _ _ _ h ∙ ap (λ x. set (words_of_bytes bytes) a x) (word_of_parts v fits)
-
--- Placing a word leaves the number of bytes.
-pub length_placed : (bytes : List ℕ) (place v : ℕ) → length (placed bytes place v) ≡ length bytes
-length_placed bytes place v = simp length-set
+-- The bytes of words of which one was made anew.
+pub bytes_set : (words : List ℕ) (a v : ℕ) → a < length words → bytes_of_words (set words a v) ≡ put_mid (4 * a) 4 (bytes_of_words words) (to_be_bytes w32 v)
+bytes_set [] a v h = absurd (omega arith)
+bytes_set (w ∷ words) zero v h = refl
+bytes_set (w ∷ words) (suc a) v h =
+    let k : a < length words = omega arith in
+    let others = bytes_set words a v k in
+    rw put_further (ap (λ l. (w / 256 ^ 3 % 256) ∷ (w / 256 ^ 2 % 256) ∷ (w / 256 % 256) ∷ (w % 256) ∷ l) others)
 
 -- Words made of bytes have 32 bits.
 pub words_fit : (bytes : List ℕ) → ((i : ℕ) → get_or bytes i 0 < 256) → (a : ℕ) → get_or (words_of_bytes bytes) a 0 < 2 ^ 32
@@ -89,3 +102,6 @@ bytes_back (p ∷ q ∷ r ∷ s ∷ rest) all e =
     let back = bytes_back rest (λ i. all (suc (suc (suc (suc i))))) fours in
     let parts = parts_of_word p q r s (all 0) (all 1) (all 2) (all 3) in
     cc
+
+-- What the calls of a byte store's memory are proved with.
+pub ruleset fours = (bytes_back, length_words, word_of_chunk, words_fit, common_steps)

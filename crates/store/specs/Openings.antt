@@ -1,8 +1,9 @@
 -- What an opening answers.
-use Rattle.std.specs.Prelude.{Bool, cond, Ok, Err, Result}
+use Rattle.std.specs.Prelude.{◌≡◌, Bool, true, false, Ok, Err, Result}
 use Rattle.book.specs.declared.Refusal.{Refusal}
 use Rattle.store.specs.declared.opening.Unopened.{Unopened}
 
--- The store where it may be opened; else the refusal, and what was given to open it on.
-abbrev pub opening : {S G : Type 0} → Bool → Refusal → S → G → Result S (Unopened G)
-opening fits refusal store given = cond fits (Ok store) (Err (record { refusal = refusal; back = given }))
+-- A store that stands on what was given, where it may be opened; else the refusal, and what was given handed back.
+abbrev pub Opening : {S G : Type 0} → Bool → (S → Type 0) → Refusal → G → Result S (Unopened G) → Type 0
+Opening fits IsOn refusal given (Ok store) = (fits ≡ true) × IsOn store
+Opening fits IsOn refusal given (Err unopened) = (fits ≡ false) × (unopened ≡ record { refusal = refusal; back = given })

@@ -18,11 +18,15 @@ abbrev pub swapped : List ℕ → ℕ → ℕ → List ℕ
 swapped words a b =
     cond (both_there words a b) (slice_set (slice_set words a (slice_index words b)) b (slice_index words a)) words
 
--- Two words of lent numbers swapped, where the numbers are a book. Otherwise nothing has changed.
-abbrev pub numbers_swapped : List ℕ → ℕ → ℕ → List ℕ
-numbers_swapped numbers a b = cond (is_book_length (length numbers)) (swapped numbers a b) numbers
+-- Memory after two of the words that it is were swapped, where it has the length of a book. Otherwise nothing has changed.
+abbrev pub lent_swapped : {X : Type 0} → (ℕ → Bool) → (List X → List ℕ) → (List ℕ → List X) → List X → ℕ → ℕ → List X
+lent_swapped is_length words cells memory a b =
+    cond (is_length (length memory)) (cells (swapped (words memory) a b)) memory
 
--- The same of lent bytes.
+-- Lent numbers after it.
+abbrev pub numbers_swapped : List ℕ → ℕ → ℕ → List ℕ
+numbers_swapped = lent_swapped is_book_length (λ words. words) (λ words. words)
+
+-- Lent bytes after it.
 abbrev pub bytes_swapped : List ℕ → ℕ → ℕ → List ℕ
-bytes_swapped bytes a b =
-    cond (is_byte_length (length bytes)) (bytes_of_words (swapped (words_of_bytes bytes) a b)) bytes
+bytes_swapped = lent_swapped is_byte_length words_of_bytes bytes_of_words

@@ -1,5 +1,7 @@
 -- A window: some words of a store in a row, taken as a store of their own.
-use Rattle.std.specs.Prelude.{ℕ, ◌+◌, Bool, cond, ◌&&◌, List, take, drop, Some, None, Option, nat_le, nat_lt}
+use Rattle.std.specs.Prelude.{ℕ, ◌+◌, Bool, cond, ◌&&◌, List, take, drop, Ok, Err, Result, nat_le, nat_lt}
+use Rattle.book.specs.declared.Refusal.{Refusal}
+use Rattle.book.specs.declared.Refusal.TheVariants.{BeyondBook}
 use Rattle.store.specs.Grounds.{Ground, Around}
 
 -- The words of a window: `count` of those below it, from word `first` on.
@@ -10,9 +12,9 @@ window first count words = take count (drop first words)
 abbrev pub is_inside : ℕ → ℕ → ℕ → Bool
 is_inside first count length = nat_le 1 count && nat_le (first + count) length
 
--- The number below of word a of a window, where the window has a word a.
-abbrev pub place_below : ℕ → ℕ → ℕ → Option ℕ
-place_below first count a = cond (nat_lt a count) (Some (first + a)) None
+-- The number below of word a of a window; refused where the window has no word a.
+abbrev pub place_below : ℕ → ℕ → ℕ → Result ℕ Refusal
+place_below first count a = cond (nat_lt a count) (Ok (first + a)) (Err BeyondBook)
 
 -- What a window stands on: where it begins and how many words it has, the words in front of it and behind it, and what the
 -- store below stands on.

@@ -8,13 +8,14 @@ ghost use Rattle.store.specs.Words.{Book, reading, writing};
 use book::Refusal;
 
 pub mod byte;
+pub mod lent;
 pub mod number;
 pub mod opening;
 pub mod swap;
 pub mod window;
 
-// A store means a list of words, numbered from 0, each a 32-bit number. What is read and written is told by that list,
-// whatever the store stands on. The length of the list never changes.
+// A store means the words of a book: 1 to 4,096 of them, numbered from 0, each a 32-bit number. What is read and written is
+// told by that list, whatever the store stands on. The length of the list never changes.
 pub trait Store {
     // The words.
     ghost words: { Self → List ℕ };
@@ -22,13 +23,9 @@ pub trait Store {
     // What the store stands on, apart from the words. It never changes.
     ghost footing: { Self → Ground };
 
-    // That the store was opened: what its opening gives, and what every write keeps.
-    ghost opened: { Self → Type 0 };
-
-    // How many words there are; of a store that was opened, 1 to 4,096.
+    // How many words there are.
     fn len(&self) -> usize
-        ensures counts { result ≡ length (words self.now) }
-        ensures bounds { opened self.now → Book (words self.now) };
+        ensures { result ≡ length (words self.now) };
 
     // The word; refused where there is none of that number.
     fn read(&self, word: usize) -> Result<u32, Refusal>
@@ -39,6 +36,8 @@ pub trait Store {
     fn write(&mut self, word: usize, value: u32) -> Result<(), Refusal>
         ensures answer { result ≡ writing (words self.old) word }
         ensures after { words self.new ≡ slice_set (words self.old) word value }
-        ensures aside { footing self.new ≡ footing self.old }
-        ensures stays { opened self.old → opened self.new };
+        ensures aside { footing self.new ≡ footing self.old };
+
+    // The words are those of a book.
+    ghost means_book: { (s : Self) → Book (words s) };
 }

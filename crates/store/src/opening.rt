@@ -4,7 +4,7 @@ ghost use Rattle.std.specs.Prelude.{◌≡◌};
 use book::Refusal;
 
 // Why no store was opened, and what it was to stand on, handed back as it was.
-#[derive(Drop)]
+#[derive(Debug, PartialEq, Eq, Drop)]
 pub struct Unopened<G> {
     pub refusal: Refusal,
     pub back: G,

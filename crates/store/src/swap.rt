@@ -11,7 +11,6 @@ pub fn swap_words<S: Store>(store: &mut S, a: usize, b: usize) -> Result<(), Ref
     ensures answer { result ≡ swap_answer (S.words store.old) a b }
     ensures after { S.words store.new ≡ swapped (S.words store.old) a b }
     ensures aside { S.footing store.new ≡ S.footing store.old }
-    ensures stays { S.opened store.old → S.opened store.new }
 {
     let first = store.read(a)?;
     let second = store.read(b)?;
