@@ -1,5 +1,5 @@
 -- Words as bytes, four by four.
-use Rattle.std.proofs.Common.{◌≡◌, ℕ, zero, suc, ◌+◌, ◌*◌, ◌/◌, ◌%◌, ◌^◌, ◌<◌, List, [], ◌∷◌, length, get_or, map, set, w32, refl, ap, mod-eq_of_lt, arith}
+use Rattle.std.proofs.Common.{◌≡◌, ℕ, zero, suc, ◌+◌, ◌*◌, ◌/◌, ◌%◌, ◌^◌, ◌<◌, List, [], ◌∷◌, length, get_or, map, set, w32, refl, sym, ap, ◌∙◌, mod-eq_of_lt, arith}
 use native.Mathlib.Nat.{div-div-eq-div-mul}
 use borrow.Rule.Slice.PartMut.{put_mid}
 use Rattle.std.proofs.lemmas.Grind.{common_steps}
@@ -57,7 +57,7 @@ put_further : (a p q r s : ℕ) (rest part : List ℕ) →
 put_further a p q r s rest part = rw (four a) refl
 
 -- The bytes of a word put in at place 4a make it word a, and the other words stay.
-pub words_put : (bytes : List ℕ) (a v : ℕ) → a < length bytes / 4 → v < 2 ^ 32 →
+words_put : (bytes : List ℕ) (a v : ℕ) → a < length bytes / 4 → v < 2 ^ 32 →
     words_of_bytes (put_mid (4 * a) 4 bytes (to_be_bytes w32 v)) ≡ set (words_of_bytes bytes) a v
 words_put [] a v h fits = absurd (omega arith)
 words_put (p ∷ []) a v h fits = absurd (omega arith)
@@ -69,7 +69,7 @@ words_put (p ∷ q ∷ r ∷ s ∷ rest) (suc a) v h fits =
     rw (put_further a p q r s rest (to_be_bytes w32 v)) (ap (λ l. word_of p q r s ∷ l) (words_put rest a v k fits))
 
 -- The bytes of words of which one was made anew.
-pub bytes_set : (words : List ℕ) (a v : ℕ) → a < length words → bytes_of_words (set words a v) ≡ put_mid (4 * a) 4 (bytes_of_words words) (to_be_bytes w32 v)
+bytes_set : (words : List ℕ) (a v : ℕ) → a < length words → bytes_of_words (set words a v) ≡ put_mid (4 * a) 4 (bytes_of_words words) (to_be_bytes w32 v)
 bytes_set [] a v h = absurd (omega arith)
 bytes_set (w ∷ words) zero v h = refl
 bytes_set (w ∷ words) (suc a) v h =
@@ -103,5 +103,18 @@ bytes_back (p ∷ q ∷ r ∷ s ∷ rest) all e =
     let parts = parts_of_word p q r s (all 0) (all 1) (all 2) (all 3) in
     cc
 
+-- The words of memory in which the bytes of a word were made anew.
+pub words_written : (bytes part : List ℕ) (a k v : ℕ) → a < length bytes / 4 → v < 2 ^ 32 → k ≡ 4 → part ≡ to_be_bytes w32 v →
+    set (words_of_bytes bytes) a v ≡ words_of_bytes (put_mid (4 * a) k bytes part)
+words_written bytes part a k v h fits four_bytes same = rw (four_bytes, same) (sym (words_put bytes a v h fits))
+
+-- Where the memory was nothing but its words, it still is.
+pub exact_written : (bytes part : List ℕ) (a k v : ℕ) → a < length bytes / 4 → v < 2 ^ 32 → k ≡ 4 → part ≡ to_be_bytes w32 v →
+    bytes_of_words (words_of_bytes bytes) ≡ bytes → bytes_of_words (words_of_bytes (put_mid (4 * a) k bytes part)) ≡ put_mid (4 * a) k bytes part
+exact_written bytes part a k v h fits four_bytes same exact =
+    let e = length_words bytes in
+    let there : a < length (words_of_bytes bytes) = omega arith in
+    rw (four_bytes, same) (ap bytes_of_words (words_put bytes a v h fits) ∙ bytes_set (words_of_bytes bytes) a v there ∙ ap (λ l. put_mid (4 * a) 4 l (to_be_bytes w32 v)) exact)
+
 -- What the calls of a byte store's memory are proved with.
-pub ruleset fours = (bytes_back, length_words, word_of_chunk, words_fit, common_steps)
+pub ruleset fours = (bytes_back, exact_written, length_words, word_of_chunk, words_fit, words_written, common_steps)
