@@ -10,61 +10,66 @@ mod tests {
     use std::test::Fail;
     use store::Store;
     use store::byte::ByteStore;
+    use store::lent::{LentStore, MemoryCell};
     use store::number::NumberStore;
     use store::window::Window;
 
-    // Whether a store has no word of this number, and one before it.
-    fn ends_at<S: Store>(store: &S, word: usize) -> bool {
-        word > 0 && store.read(word - 1).is_ok() && store.read(word).is_err()
+    // Whether a store has so many words.
+    fn has_words<S: Store>(store: &S, count: usize) -> bool {
+        store.len() == count
+            && count > 0
+            && store.read(count - 1).is_ok()
+            && store.read(count) == Err(Refusal::BeyondBook)
     }
 
-    // Lengths, and whether a number store can be opened on so many numbers.
-    const NUMBERS: [(usize, bool); 5] = [
-        (0, false),
-        (1, true),
-        (4095, true),
-        (4096, true),
-        (4097, false),
+    // Whether a store is opened on memory as it should be, and has so many words, or is refused.
+    fn opens_with<T: MemoryCell>(memory: &mut [T], words: Option<usize>) -> bool {
+        match (LentStore::open(memory), words) {
+            (Ok(store), Some(count)) => has_words(&store, count),
+            (Err(unopened), None) => u8::from(unopened.refusal) == 7,
+            _ => false,
+        }
+    }
+
+    // How many numbers are lent, and how many words a store on them has, if it is opened.
+    const NUMBERS: [(usize, Option<usize>); 5] = [
+        (0, None),
+        (1, Some(1)),
+        (4095, Some(4095)),
+        (4096, Some(4096)),
+        (4097, None),
     ];
 
     #[test]
     fn number_stores(rt: HostRuntime) -> Result<(), Fail> {
-        let mut words = vec![in rt.alloc(); 0u32; 4097]?;
-        for (length, opens) in NUMBERS {
-            assert!(rt; length <= words.len());
-            match NumberStore::open(&mut words[0..length]) {
-                Ok(store) => assert!(rt; opens && store.len() == length && ends_at(&store, length)),
-                Err(unopened) => assert!(rt; !opens && u8::from(unopened.refusal) == 7),
-            }
+        let mut numbers = vec![in rt.alloc(); 0u32; 4097]?;
+        for (length, words) in NUMBERS {
+            assert!(rt; length <= numbers.len());
+            assert!(rt; opens_with(&mut numbers[..length], words));
         }
         Ok(())
     }
 
-    // Lengths, and whether a byte store can be opened on so many bytes.
-    const BYTES: [(usize, bool); 10] = [
-        (0, false),
-        (1, false),
-        (3, false),
-        (4, true),
-        (5, false),
-        (8, true),
-        (16_380, true),
-        (16_384, true),
-        (16_385, false),
-        (16_388, false),
+    // How many bytes are lent, and how many words a store on them has, if it is opened.
+    const BYTES: [(usize, Option<usize>); 10] = [
+        (0, None),
+        (1, None),
+        (3, None),
+        (4, Some(1)),
+        (5, None),
+        (8, Some(2)),
+        (16_380, Some(4095)),
+        (16_384, Some(4096)),
+        (16_385, None),
+        (16_388, None),
     ];
 
     #[test]
     fn byte_stores(rt: HostRuntime) -> Result<(), Fail> {
         let mut bytes = vec![in rt.alloc(); 0u8; 16_388]?;
-        for (length, opens) in BYTES {
+        for (length, words) in BYTES {
             assert!(rt; length <= bytes.len());
-            match ByteStore::open(&mut bytes[0..length]) {
-                Ok(store) => assert!(rt;
-                    opens && store.len() == length / 4 && ends_at(&store, length / 4)
-                ),
-                Err(unopened) => assert!(rt; !opens && u8::from(unopened.refusal) == 7),
-            }
+            assert!(rt; opens_with(&mut bytes[..length], words));
         }
         Ok(())
     }
@@ -88,12 +93,12 @@ mod tests {
     fn windows(rt: HostRuntime) -> Result<(), Fail> {
         for (first, count, opens) in WINDOWS {
             let mut words = [0u32; 16];
-            match NumberStore::open(&mut words) {
-                Ok(store) => match Window::open(store, first, count) {
-                    Ok(window) => assert!(rt; opens && ends_at(&window, count as usize)),
-                    Err(unopened) => assert!(rt; !opens && u8::from(unopened.refusal) == 8),
-                },
-                Err(_) => return Err(Fail::new("16 words are a book")),
+            let store = NumberStore::open(&mut words)
+                .ok()
+                .ok_or("16 words are a book")?;
+            match Window::open(store, first, count) {
+                Ok(window) => assert!(rt; opens && has_words(&window, count as usize)),
+                Err(unopened) => assert!(rt; !opens && u8::from(unopened.refusal) == 8),
             }
         }
         Ok(())
@@ -102,22 +107,14 @@ mod tests {
     // A word of a byte store begins with its most significant byte, in a window of a window too.
     #[test]
     fn byte_order(rt: HostRuntime) -> Result<(), Fail> {
-        let mut bytes = [0u8; 16];
-        bytes[8] = 0x12;
-        bytes[9] = 0x34;
-        bytes[10] = 0x56;
-        bytes[11] = 0x78;
-        let Ok(store) = ByteStore::open(&mut bytes) else {
-            return Err(Fail::new("16 bytes are a book"));
-        };
-        let Ok(outer) = Window::open(store, 1, 3) else {
-            return Err(Fail::new("words 1 to 3 of 4"));
-        };
-        let Ok(mut inner) = Window::open(outer, 1, 1) else {
-            return Err(Fail::new("word 1 of 3"));
-        };
-        assert!(rt; inner.read(0).ok() == Some(0x1234_5678));
-        assert!(rt; inner.write(0, 0x9ABC_DEF0).is_ok());
+        let mut bytes = [0u8, 0, 0, 0, 0, 0, 0, 0, 0x12, 0x34, 0x56, 0x78, 0, 0, 0, 0];
+        let store = ByteStore::open(&mut bytes)
+            .ok()
+            .ok_or("16 bytes are a book")?;
+        let outer = Window::open(store, 1, 3).ok().ok_or("words 1 to 3 of 4")?;
+        let mut inner = Window::open(outer, 1, 1).ok().ok_or("word 1 of 3")?;
+        assert_eq!(rt; inner.read(0), Ok(0x1234_5678));
+        assert_eq!(rt; inner.write(0, 0x9ABC_DEF0), Ok(()));
         assert!(rt; inner.write(1, 1).is_err());
         let bytes = inner.close().close().close();
         assert_eq!(rt;
@@ -136,19 +133,13 @@ mod tests {
 
     // What is refused is told by `?` in the same way.
     #[test]
-    fn refused_openings(rt: HostRuntime) -> Result<(), Fail> {
-        assert!(rt; first_of_window(&mut [5, 6, 7], 1, 2).ok() == Some(6));
-        match first_of_window(&mut [], 0, 1) {
-            Ok(_) => return Err(Fail::new("no numbers are no book")),
-            Err(refusal) => assert!(rt; u8::from(refusal) == 7),
-        }
-        match first_of_window(&mut [5, 6, 7], 2, 2) {
-            Ok(_) => Err(Fail::new("3 words have no word 3")),
-            Err(refusal) => {
-                assert!(rt; u8::from(refusal) == 8);
-                Ok(())
-            },
-        }
+    fn refused_openings(rt: HostRuntime) {
+        assert_eq!(rt; first_of_window(&mut [5, 6, 7], 1, 2), Ok(6));
+        assert_eq!(rt; first_of_window(&mut [], 0, 1).map_err(u8::from), Err(7));
+        assert_eq!(rt;
+            first_of_window(&mut [5, 6, 7], 2, 2).map_err(u8::from),
+            Err(8)
+        );
     }
 
     // A rank is not given twice, the last number is not given, and what is no job gets none.

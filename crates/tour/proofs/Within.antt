@@ -1,14 +1,24 @@
 -- What is done on a window, seen from the store below.
-use Rattle.std.proofs.Common.{◌≡◌, ℕ, ◌+◌, true, List, [], ◌++◌, length, take, drop, Ok, sym, refl, ap, ◌∙◌}
+use Rattle.std.proofs.Common.{◌≡◌, ℕ, ◌+◌, true, List, [], ◌++◌, length, take, drop, sym, refl, ◌∙◌, drop-drop}
 use Rattle.std.proofs.lemmas.Bool.{cond_both, cond-true}
-use Rattle.book.specs.declared.Refusal.TheVariants.{BadWindow}
-use Rattle.store.specs.declared.window.Window.{Window}
+use Rattle.std.proofs.lemmas.List.{take-append-drop}
 use Rattle.store.specs.Grounds.{Ground}
-use Rattle.store.specs.Openings.{opening}
 use Rattle.store.specs.Windows.{around, is_inside, window}
-use Rattle.store.proofs.Opened.{opened_is}
-use Rattle.store.proofs.Panes.{parted, restored}
 use Rattle.tour.specs.StoreSteps.{in_window, words_after_all}
+
+-- Words are those in front of a window, those of the window and those behind it.
+parted : (first count : ℕ) (words : List ℕ) → words ≡ take first words ++ (window first count words ++ drop (first + count) words)
+parted first count words =
+    let rest = take-append-drop count (drop first words) in
+    let far = drop-drop count first words in
+    let all = take-append-drop first words in
+    cc
+
+-- Where only the words of a window have changed, the others are as they were.
+restored : (first count : ℕ) (before after inner : List ℕ) (below below' : Ground) →
+    around first count after below' ≡ around first count before below → window first count after ≡ inner →
+    after ≡ take first before ++ (inner ++ drop (first + count) before)
+restored first count before after inner below below' same made = let whole = parted first count after in cc
 
 -- Nothing done on a window is nothing done.
 pub nothing_done : (first count : ℕ) (words : List ℕ) → in_window first count (words_after_all []) words ≡ words
@@ -22,7 +32,7 @@ nothing_done first count words =
     (λ e. refl)
 
 -- A window's numbers are kept, and so what is around it; its words are made anew.
-seen : (first count : ℕ) (done : List ℕ → List ℕ) (before : List ℕ) (below : Ground) (first' count' : ℕ) (after : List ℕ) (below' : Ground) →
+pub seen : (first count : ℕ) (done : List ℕ → List ℕ) (before : List ℕ) (below : Ground) (first' count' : ℕ) (after : List ℕ) (below' : Ground) →
     is_inside first count (length before) ≡ true →
     around first' count' after below' ≡ around first count before below →
     window first' count' after ≡ done (window first count before) →
@@ -36,17 +46,3 @@ seen first count done before below first' count' after below' fits same made =
           ∙ sym (cond-true (is_inside first count (length before)) (take first before ++ (done (window first count before) ++ drop (first + count) before)) before fits),
       cc,
     )
-
--- The same of a window that was opened on a store.
-module _ {S : Type 0} (words : S → List ℕ) (footing : S → Ground) where
-  pub seen_below : (first count : ℕ) (done : List ℕ → List ℕ) (store : S) (opened after : Window S) →
-      Ok opened ≡ opening (is_inside first count (length (words store))) BadWindow (record { store = store; first = first; count = count }) store →
-      around after.first after.count (words after.store) (footing after.store) ≡ around opened.first opened.count (words opened.store) (footing opened.store) →
-      window after.first after.count (words after.store) ≡ done (window opened.first opened.count (words opened.store)) →
-      (words after.store ≡ in_window first count done (words store)) × (footing after.store ≡ footing store)
-  seen_below first count done store opened after was same made =
-      let asked : Window S = record { store = store; first = first; count = count } in
-      let is = opened_is (is_inside first count (length (words store))) BadWindow asked opened store was in
-      seen first count done (words store) (footing store) after.first after.count (words after.store) (footing after.store) is.0
-      (same ∙ ap (λ (x : Window S). around x.first x.count (words x.store) (footing x.store)) is.1)
-      (made ∙ ap (λ (x : Window S). done (window x.first x.count (words x.store))) is.1)

@@ -1,29 +1,18 @@
 -- What the steps of the story make of a store's words, and what is answered.
-use Rattle.std.specs.Prelude.{ℕ, ◌+◌, cond, List, [], ◌∷◌, ◌++◌, length, take, drop, Ok, Err, Result, slice_set}
+use Rattle.std.specs.Prelude.{ℕ, ◌+◌, cond, List, [], ◌∷◌, ◌++◌, length, take, drop, Some, None, Option, Result, slice_set}
+use Rattle.std.specs.Result.{result_map_both}
 use Rattle.book.specs.declared.Refusal.{Refusal}
 use Rattle.store.specs.Windows.{is_inside, window}
 use Rattle.store.specs.Words.{reading, writing}
 use Rattle.store.specs.Swaps.{swap_answer, swapped}
 use Rattle.tour.specs.declared.store_story.StoreStep.{StoreStep}
 use Rattle.tour.specs.declared.store_story.StoreStep.TheVariants.{Read, Write, Swap}
-use Rattle.tour.specs.declared.store_story.StoreAnswer.{StoreAnswer}
-use Rattle.tour.specs.declared.store_story.StoreAnswer.TheVariants.{Value, Done, Refused}
 
--- The answer to a reading.
-abbrev pub value_answer : Result ℕ Refusal → StoreAnswer
-value_answer (Ok value) = Value value
-value_answer (Err refusal) = Refused refusal
-
--- The answer to what changes words.
-abbrev pub done_answer : Result (Unit {0}) Refusal → StoreAnswer
-done_answer (Ok done) = Done
-done_answer (Err refusal) = Refused refusal
-
--- What a store with these words answers to a step.
-abbrev pub answer_to : StoreStep → List ℕ → StoreAnswer
-answer_to (Read word) words = value_answer (reading words word)
-answer_to (Write word value) words = done_answer (writing words word)
-answer_to (Swap a b) words = done_answer (swap_answer words a b)
+-- What a store with these words answers to a step: a reading gives the word.
+abbrev pub answer_to : StoreStep → List ℕ → Result (Option ℕ) Refusal
+answer_to (Read word) words = result_map_both Some (λ refusal. refusal) (reading words word)
+answer_to (Write word value) words = result_map_both (λ done. None) (λ refusal. refusal) (writing words word)
+answer_to (Swap a b) words = result_map_both (λ done. None) (λ refusal. refusal) (swap_answer words a b)
 
 -- The words after a step.
 abbrev pub words_after : StoreStep → List ℕ → List ℕ

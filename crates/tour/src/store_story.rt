@@ -1,30 +1,22 @@
 // One story told to every kind of store.
 ghost use Rattle.std.specs.Prelude.{◌≡◌, IfOk, OnOk};
-ghost use Rattle.store.specs.Swaps.{bytes_swapped, numbers_swapped};
-ghost use Rattle.tour.specs.StoreSteps.{answer_to, done_answer, in_window, with_windows, words_after, words_after_all};
+ghost use Rattle.store.specs.Swaps.{lent_swapped};
+ghost use Rattle.tour.specs.StoreSteps.{answer_to, in_window, with_windows, words_after, words_after_all};
 
 use book::{MOST_WORDS, Refusal};
 use std::{fmt, io};
 use store::Store;
-use store::byte::{ByteStore, WORD_BYTES, swap_bytes};
-use store::number::{NumberStore, swap_numbers};
+use store::byte::WORD_BYTES;
+use store::lent::{LentStore, MemoryCell, swap_lent};
 use store::swap::swap_words;
 use store::window::Window;
 
 // What can be done to a store.
-#[derive(Clone, Copy)]
+#[derive(Clone, Copy, Debug, PartialEq, Eq)]
 pub enum StoreStep {
     Read { word: usize },
     Write { word: usize, value: u32 },
     Swap { a: usize, b: usize },
-}
-
-// What a store answers.
-#[derive(Clone, Copy)]
-pub enum StoreAnswer {
-    Value(u32),
-    Done,
-    Refused(Refusal),
 }
 
 impl fmt::Display for StoreStep {
@@ -37,12 +29,16 @@ impl fmt::Display for StoreStep {
     }
 }
 
+// What is answered to a step: a value where one was asked for, or why it was refused.
+#[derive(Debug, PartialEq, Eq, Drop)]
+struct StoreAnswer(Result<Option<u32>, Refusal>);
+
 impl fmt::Display for StoreAnswer {
     fn fmt<W: fmt::Write>(&self, f: &mut fmt::Formatter<W>) -> fmt::Result {
-        match *self {
-            StoreAnswer::Value(value) => write!(f, "value {value}"),
-            StoreAnswer::Done => write!(f, "ok"),
-            StoreAnswer::Refused(refusal) => {
+        match self.0 {
+            Ok(Some(value)) => write!(f, "value {value}"),
+            Ok(None) => write!(f, "ok"),
+            Err(refusal) => {
                 let number = u8::from(refusal);
                 write!(f, "refused {number}")
             }
@@ -50,30 +46,18 @@ impl fmt::Display for StoreAnswer {
     }
 }
 
-// The answer to what changes words.
-fn answer_done(done: Result<(), Refusal>) -> StoreAnswer
-    ensures { result ≡ done_answer done }
-{
-    match done {
-        Ok(()) => StoreAnswer::Done,
-        Err(refusal) => StoreAnswer::Refused(refusal),
-    }
-}
-
-// Does one step.
-fn perform<S: Store>(store: &mut S, step: StoreStep) -> StoreAnswer
+// Does one step; a reading gives the word.
+fn perform<S: Store>(store: &mut S, step: StoreStep) -> Result<Option<u32>, Refusal>
     ensures answer { result ≡ answer_to step (S.words store.old) }
     ensures after { S.words store.new ≡ words_after step (S.words store.old) }
     ensures aside { S.footing store.new ≡ S.footing store.old }
 {
     match step {
-        StoreStep::Read { word } => match store.read(word) {
-            Ok(value) => StoreAnswer::Value(value),
-            Err(refusal) => StoreAnswer::Refused(refusal),
-        },
-        StoreStep::Write { word, value } => answer_done(store.write(word, value)),
-        StoreStep::Swap { a, b } => answer_done(swap_words(store, a, b)),
+        StoreStep::Read { word } => return Ok(Some(store.read(word)?)),
+        StoreStep::Write { word, value } => store.write(word, value)?,
+        StoreStep::Swap { a, b } => swap_words(store, a, b)?,
     }
+    Ok(None)
 }
 
 // Prints how many words a store has, does some steps, and prints each with its answer.
@@ -84,7 +68,7 @@ fn show_steps<S: Store>(rt: &impl Print, store: &mut S, steps: &[StoreStep]) -> 
     let count = store.len();
     println!(rt; "  {count} words")?;
     for step in steps {
-        let answer = perform(store, *step);
+        let answer = StoreAnswer(perform(store, *step));
         println!(rt; "  {step}: {answer}")?;
     }
     Ok(())
@@ -92,7 +76,7 @@ fn show_steps<S: Store>(rt: &impl Print, store: &mut S, steps: &[StoreStep]) -> 
 
 // Prints that an opening was refused.
 fn show_refusal(rt: &impl Print, refusal: Refusal) -> io::Result<()> {
-    let answer = StoreAnswer::Refused(refusal);
+    let answer = StoreAnswer(Err(refusal));
     println!(rt; "  {answer}")
 }
 
@@ -172,6 +156,7 @@ fn show_with_windows<S: Store + Drop>(
 }
 
 // Asks for a window and does nothing on it, and gives the store back as it was.
+#[tactic(auto, using(crate::proofs::Within::nothing_done))]
 fn ask_for_window<S: Store + Drop>(
     rt: &impl Print,
     store: S,
@@ -195,83 +180,100 @@ fn show_bad_windows<S: Store + Drop>(rt: &impl Print, store: S) -> io::Result<S>
     ask_for_window(rt, store, u32::MAX, u32::MAX)
 }
 
-// Bytes in hexadecimal.
-#[derive(Drop)]
-struct Hexadecimal<'a>(&'a [u8]);
+// A kind of memory, as it is shown.
+trait ShownCell: MemoryCell {
+    // What a cell is called.
+    const NAME: &'static str;
 
-impl fmt::Display for Hexadecimal<'_> {
-    fn fmt<W: fmt::Write>(&self, f: &mut fmt::Formatter<W>) -> fmt::Result {
-        for byte in self.0 {
+    // Writes cells, after a blank.
+    fn fmt_cells<W: fmt::Write>(memory: &[Self], f: &mut fmt::Formatter<W>) -> fmt::Result;
+}
+
+// Numbers are shown as a list.
+impl ShownCell for u32 {
+    const NAME: &'static str = "number";
+
+    fn fmt_cells<W: fmt::Write>(memory: &[u32], f: &mut fmt::Formatter<W>) -> fmt::Result {
+        write!(f, " {memory:?}")
+    }
+}
+
+// Bytes are shown in hexadecimal.
+impl ShownCell for u8 {
+    const NAME: &'static str = "byte";
+
+    fn fmt_cells<W: fmt::Write>(memory: &[u8], f: &mut fmt::Formatter<W>) -> fmt::Result {
+        for byte in memory {
             write!(f, " {byte:02X}")?;
         }
         Ok(())
     }
 }
 
-// Opens a number store on some words, tells it the story, and gives it up.
-fn show_numbers(rt: &impl Print, words: &mut [u32]) -> io::Result<()> {
-    let count = words.len();
-    println!(rt; "number store on {count} numbers")?;
-    match NumberStore::open(words) {
-        Ok(store) => {
-            let store = show_with_windows(rt, store, &STORY)?;
-            let store = show_bad_windows(rt, store)?;
-            let words = store.close();
-            println!(rt; "memory: {words:?}")
-        }
-        Err(unopened) => show_refusal(rt, unopened.refusal),
+// What memory holds.
+#[derive(Drop)]
+struct Memory<'a, T>(&'a [T]);
+
+impl<T: ShownCell> fmt::Display for Memory<'_, T> {
+    fn fmt<W: fmt::Write>(&self, f: &mut fmt::Formatter<W>) -> fmt::Result {
+        T::fmt_cells(self.0, f)
     }
 }
 
-// Opens a byte store on some bytes, tells it the story, and gives it up.
-fn show_bytes(rt: &impl Print, bytes: &mut [u8]) -> io::Result<()> {
-    let count = bytes.len();
-    println!(rt; "byte store on {count} bytes")?;
-    match ByteStore::open(bytes) {
+// Prints what memory holds.
+fn show_memory<T: ShownCell>(rt: &impl Print, memory: &[T]) -> io::Result<()> {
+    let memory = Memory(memory);
+    println!(rt; "memory:{memory}")
+}
+
+// Opens a store on some memory, tells it the story, and gives it up. No clause says what the memory then holds: the loan
+// goes through the `Result` of the opening, and the checker does not follow it there.
+fn show_store<T: ShownCell>(rt: &impl Print, memory: &mut [T]) -> io::Result<()> {
+    let name = T::NAME;
+    let count = memory.len();
+    println!(rt; "{name} store on {count} {name}s")?;
+    match LentStore::open(memory) {
         Ok(store) => {
             let store = show_with_windows(rt, store, &STORY)?;
             let store = show_bad_windows(rt, store)?;
-            let bytes = Hexadecimal(store.close());
-            println!(rt; "memory:{bytes}")
+            show_memory(rt, store.close())
         }
         Err(unopened) => show_refusal(rt, unopened.refusal),
     }
 }
 
 // Swaps words of borrowed memory, with no store left open.
-fn show_swaps(rt: &impl Print, words: &mut [u32], bytes: &mut [u8]) -> io::Result<()>
-    ensures words { words.new ≡ numbers_swapped words.old 0 5 }
-    ensures bytes { bytes.new ≡ bytes_swapped bytes.old 0 5 }
+fn show_swap<T: ShownCell>(rt: &impl Print, memory: &mut [T]) -> io::Result<()>
+    ensures { memory.new ≡ lent_swapped T.is_length T.words T.cells memory.old 0 5 }
 {
-    let in_words = answer_done(swap_numbers(words, 0, 5));
-    let in_bytes = answer_done(swap_bytes(bytes, 0, 5));
-    println!(rt; "swap 0 5 in the numbers: {in_words}")?;
-    println!(rt; "swap 0 5 in the bytes: {in_bytes}")
+    let name = T::NAME;
+    let answer = StoreAnswer(swap_lent(memory, 0, 5).map(|()| None));
+    println!(rt; "swap 0 5 in the {name}s: {answer}")
 }
 
 // Tries to open stores on memory that is no book.
 fn show_bad_lengths(rt: &HostRuntime) -> anyhow::Result<()> {
     let mut words = vec![in rt.alloc(); 0u32; MOST_WORDS + 1]?;
-    show_numbers(rt, &mut [])?;
-    show_numbers(rt, &mut words)?;
+    show_store::<u32>(rt, &mut [])?;
+    show_store(rt, &mut words[..])?;
     let mut bytes = vec![in rt.alloc(); 0u8; WORD_BYTES * (MOST_WORDS + 1)]?;
-    show_bytes(rt, &mut [])?;
-    show_bytes(rt, &mut [1, 2, 3, 4, 5, 6])?;
-    show_bytes(rt, &mut bytes)?;
+    show_store::<u8>(rt, &mut [])?;
+    show_store::<u8>(rt, &mut [1, 2, 3, 4, 5, 6])?;
+    show_store(rt, &mut bytes[..])?;
     Ok(())
 }
 
 // Tells the story to every kind of store.
 pub fn show(rt: &HostRuntime) -> anyhow::Result<()> {
-    let mut words = [10, 11, 12, 13, 14, 15];
-    show_numbers(rt, &mut words)?;
+    let mut words = [10u32, 11, 12, 13, 14, 15];
+    show_store(rt, &mut words)?;
     let mut bytes = [
-        0, 0, 0, 10, 0, 0, 0, 11, 0, 0, 0, 12, 0, 0, 0, 13, 0, 0, 0, 14, 0, 0, 0, 15,
+        0u8, 0, 0, 10, 0, 0, 0, 11, 0, 0, 0, 12, 0, 0, 0, 13, 0, 0, 0, 14, 0, 0, 0, 15,
     ];
-    show_bytes(rt, &mut bytes)?;
-    show_swaps(rt, &mut words, &mut bytes)?;
-    println!(rt; "memory: {words:?}")?;
-    let bytes = Hexadecimal(&bytes);
-    println!(rt; "memory:{bytes}")?;
+    show_store(rt, &mut bytes)?;
+    show_swap(rt, &mut words)?;
+    show_swap(rt, &mut bytes)?;
+    show_memory(rt, &words)?;
+    show_memory(rt, &bytes)?;
     show_bad_lengths(rt)
 }

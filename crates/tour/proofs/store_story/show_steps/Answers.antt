@@ -9,11 +9,11 @@ loop-step-preserved g c =
     let steps = c.args.steps.now in
     let i = c.loop-step.step-index in
     let words = g.S.Store.words c.loop-step.store in
-    let after : g.S.Store.words c.perform-answer.new.store ≡ words_after (get_or steps i (Read 0)) words = search rules in (
+    let after : g.S.Store.words c.perform.new.store ≡ words_after (get_or steps i (Read 0)) words = search rules in (
       ap (λ w. words_after_all (drop (i + 1) steps) w) after
           ∙ sym (at_drop_more (λ l. words_after_all l words) steps i (Read 0) c.loop-step-test.true)
           ∙ c.loop-step.invariant.0,
-      c.perform-answer.ensures.aside ∙ c.loop-step.invariant.1,
+      c.perform.ensures.aside ∙ c.loop-step.invariant.1,
     )
 
 pub returns : goal.returns
