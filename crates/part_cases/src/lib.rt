@@ -93,9 +93,7 @@ mod tests {
     fn windows(rt: HostRuntime) -> Result<(), Fail> {
         for (first, count, opens) in WINDOWS {
             let mut words = [0u32; 16];
-            let store = NumberStore::open(&mut words)
-                .ok()
-                .ok_or("16 words are a book")?;
+            let store = NumberStore::open(&mut words)?;
             match Window::open(store, first, count) {
                 Ok(window) => assert!(rt; opens && has_words(&window, count as usize)),
                 Err(unopened) => assert!(rt; !opens && u8::from(unopened.refusal) == 8),
@@ -108,11 +106,9 @@ mod tests {
     #[test]
     fn byte_order(rt: HostRuntime) -> Result<(), Fail> {
         let mut bytes = [0u8, 0, 0, 0, 0, 0, 0, 0, 0x12, 0x34, 0x56, 0x78, 0, 0, 0, 0];
-        let store = ByteStore::open(&mut bytes)
-            .ok()
-            .ok_or("16 bytes are a book")?;
-        let outer = Window::open(store, 1, 3).ok().ok_or("words 1 to 3 of 4")?;
-        let mut inner = Window::open(outer, 1, 1).ok().ok_or("word 1 of 3")?;
+        let store = ByteStore::open(&mut bytes)?;
+        let outer = Window::open(store, 1, 3)?;
+        let mut inner = Window::open(outer, 1, 1)?;
         assert_eq!(rt; inner.read(0), Ok(0x1234_5678));
         assert_eq!(rt; inner.write(0, 0x9ABC_DEF0), Ok(()));
         assert!(rt; inner.write(1, 1).is_err());
