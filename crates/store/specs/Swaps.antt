@@ -1,9 +1,7 @@
 -- Two words of a store swapped.
 use Rattle.std.specs.Prelude.{ℕ, Bool, cond, ◌&&◌, List, length, Ok, Err, Result, nat_lt, slice_index, slice_set}
-use Rattle.book.specs.Lengths.{is_book_length}
 use Rattle.book.specs.declared.Refusal.{Refusal}
 use Rattle.book.specs.declared.Refusal.TheVariants.{BeyondBook}
-use Rattle.store.specs.Bytes.{bytes_of_words, is_byte_length, words_of_bytes}
 
 -- Whether there are both words.
 abbrev pub both_there : List ℕ → ℕ → ℕ → Bool
@@ -22,11 +20,3 @@ swapped words a b =
 abbrev pub lent_swapped : {X : Type 0} → (ℕ → Bool) → (List X → List ℕ) → (List ℕ → List X) → List X → ℕ → ℕ → List X
 lent_swapped is_length words cells memory a b =
     cond (is_length (length memory)) (cells (swapped (words memory) a b)) memory
-
--- Lent numbers after it.
-abbrev pub numbers_swapped : List ℕ → ℕ → ℕ → List ℕ
-numbers_swapped = lent_swapped is_book_length (λ words. words) (λ words. words)
-
--- Lent bytes after it.
-abbrev pub bytes_swapped : List ℕ → ℕ → ℕ → List ℕ
-bytes_swapped = lent_swapped is_byte_length words_of_bytes bytes_of_words

@@ -27,7 +27,7 @@ impl MemoryCell for u8 {
     }
 
     fn read(memory: &[u8], word: usize) -> Result<u32, Refusal> {
-        let (words, _) = memory.as_chunks();
+        let (words, _) = memory.as_chunks::<WORD_BYTES>();
         let bytes = words.get(word).ok_or(Refusal::BeyondBook)?;
         Ok(u32::from_be_bytes(*bytes))
     }

@@ -107,6 +107,7 @@ pub fn swap_lent<T: MemoryCell>(memory: &mut [T], a: usize, b: usize) -> Result<
     if !T::are_book(memory) {
         return Err(Refusal::BadLength);
     }
+    // Not by `open`: of a loan that went through a `Result` the checker does not tell what the memory holds at the end.
     let mut store = LentStore { memory };
     swap_words(&mut store, a, b)
 }
