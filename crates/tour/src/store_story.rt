@@ -104,7 +104,8 @@ fn show_window<S: Store + Drop>(
     }
 }
 
-// Does some steps on a window of a window of a store, and gives the store back.
+// Does some steps on a window of a window of a store, and gives the store back. Shared with `show_window` through a closure,
+// the clauses would have to speak of what the closure does.
 fn show_nested<S: Store + Drop>(rt: &impl Print, store: S, steps: &[StoreStep]) -> io::Result<S>
     ensures after { IfOk result (λ s. S.words s ≡ in_window 1 4 (in_window 0 2 (words_after_all steps.now)) (S.words store)) }
     ensures aside { IfOk result (λ s. S.footing s ≡ S.footing store) }
