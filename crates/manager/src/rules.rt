@@ -8,7 +8,7 @@ use crate::event::Event;
 // The number of words written at which two-phase gives a rank.
 const TWO_PHASE_LENGTH: usize = 10;
 
-// A rule for when a rank is given.
+// A rule for when a rank is given. It is a trait and no closure: each rule has a name and a definition.
 pub trait RankRule {
     ghost gives: { Self → Event → Bool };
 

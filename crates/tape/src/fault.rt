@@ -39,6 +39,8 @@ pub enum ProgramFault {
     Item(ItemFault),
 }
 
+// These four are written out and not derived: contracts name what `?` makes of a fault.
+
 impl From<NumberFault> for ItemFault {
     ghost from_gives = { λ x y. y ≡ InItem x };
 

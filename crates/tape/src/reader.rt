@@ -8,7 +8,8 @@ use std::marker::Model;
 use tape_number::fault::NumberFault;
 use tape_number::number::decode;
 
-// Where a reader stands on a tape.
+// Where a reader stands on a tape. Place and end are numbers on the tape, since faults are told by them: a slice of what is
+// left would want its place beside it all the same.
 #[derive(Drop)]
 pub(crate) struct Reader<'a> {
     tape: &'a [u8],

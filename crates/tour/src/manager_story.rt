@@ -11,7 +11,7 @@ use std::{fmt, io};
 
 // What a manager can be told or asked.
 // A step is data and no closure: it is printed, and definitions go by its cases.
-#[derive(Clone, Copy)]
+#[derive(Clone, Copy, Debug, PartialEq, Eq)]
 pub enum ManagerStep {
     Began { job: usize },
     Wrote { job: usize, length: usize },

@@ -12,6 +12,7 @@ use store::swap::swap_words;
 use store::window::Window;
 
 // What can be done to a store.
+// A step is data and no closure: it is printed, and definitions go by its cases.
 #[derive(Clone, Copy, Debug, PartialEq, Eq)]
 pub enum StoreStep {
     Read { word: usize },
@@ -80,7 +81,8 @@ fn show_refusal(rt: &impl Print, refusal: Refusal) -> io::Result<()> {
     println!(rt; "  {answer}")
 }
 
-// Does some steps on a window of a store, and gives the store back: the words outside the window are as they were.
+// Does some steps on a window of a store, and gives the store back: the words outside the window are as they were. That it
+// still stands on the same, here and below, is no fact of one store that its type could keep.
 fn show_window<S: Store + Drop>(
     rt: &impl Print,
     store: S,
@@ -124,7 +126,7 @@ fn show_nested<S: Store + Drop>(rt: &impl Print, store: S, steps: &[StoreStep]) 
 }
 
 // What is told to every store.
-const STORY: [StoreStep; 9] = [
+const STORY: &[StoreStep] = &[
     StoreStep::Read { word: 0 },
     StoreStep::Write {
         word: 1,
@@ -235,7 +237,7 @@ fn show_store<T: ShownCell>(rt: &impl Print, memory: &mut [T]) -> io::Result<()>
     println!(rt; "{name} store on {count} {name}s")?;
     match LentStore::open(memory) {
         Ok(store) => {
-            let store = show_with_windows(rt, store, &STORY)?;
+            let store = show_with_windows(rt, store, STORY)?;
             let store = show_bad_windows(rt, store)?;
             show_memory(rt, store.close())
         }
