@@ -36,6 +36,7 @@ impl RankTable {
     pub fn give(&mut self, job: usize)
         ensures { self.new ≡ after_event true job self.old }
     {
+        // By its index: of an array that was lent to `get_mut` no proof knows what it holds afterwards.
         if let Some(None) = self.ranks.get(job)
             && self.next < u32::MAX
         {
@@ -48,7 +49,7 @@ impl RankTable {
     pub fn take_away(&mut self, job: usize)
         ensures { self.new ≡ after_end job self.old }
     {
-        // By its index: of an array that was lent to `get_mut` no proof knows what it holds afterwards.
+        // By its index, as in `give`.
         if job < JOBS {
             self.ranks[job] = None;
         }

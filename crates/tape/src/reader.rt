@@ -84,9 +84,9 @@ impl<'a> Reader<'a> {
         ensures bytes { result.now ≡ take count self.old.bytes }
         ensures after { self.new ≡ past count self.old }
     {
-        let place = self.place;
+        let bytes = &self.rest()[..count];
         self.place += count;
-        &self.tape[place..self.place]
+        bytes
     }
 
     // Takes the number that stands here; where it is at fault, nothing is taken.
