@@ -80,7 +80,7 @@ impl<'a> Reader<'a> {
         self.remark_of(place, len)
     }
 
-    // Takes the item of a kind whose fields stand here.
+    // Takes the item of a kind whose fields stand here: a `match`, since each kind has fields of its own.
     fn next_fields(&mut self, kind: ItemKind) -> Result<Item<'a>, ItemFault>
         ensures { told_item result self.new ≡ fields_at kind self.old }
     {
