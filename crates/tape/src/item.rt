@@ -19,6 +19,7 @@ pub enum Item<'a> {
     Put { job: u32 },
     Quit { job: u32 },
     Look { job: u32 },
+    // Bytes and no `&str`: an item to be listed may be made of any bytes.
     Remark(&'a [u8]),
 }
 
