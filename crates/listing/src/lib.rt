@@ -1,10 +1,10 @@
 // What is listed of a tape: its heading in words, a line for each item, and how it ends.
 #![tactic(auto)]
 
-ghost use Rattle.std.specs.Prelude.{◌≡◌, map, IfOk, Some, string_bytes};
+ghost use Rattle.std.specs.Prelude.{◌≡◌, IfOk, Some, string_bytes};
 ghost use Rattle.tape.specs.Items.{said};
 ghost use Rattle.tape.specs.Tapes.{reading, tape_says};
-ghost use Rattle.listing.specs.Lines.{manager_name, store_name, heading_text, first_line, remark_text, item_text, item_lines, last_line, listing_text, RemarksStand};
+ghost use Rattle.listing.specs.Lines.{manager_name, store_name, heading_text, item_text, listing_text, RemarksStand};
 
 use std::alloc::{AllocError, Global};
 use std::fmt;

@@ -46,6 +46,7 @@ impl RankTable {
     }
 
     // Takes a job's rank away.
+    #[tactic(auto, using(crate::proofs::Outs::outs))]
     pub fn take_away(&mut self, job: usize)
         ensures { self.new ≡ after_end job self.old }
     {

@@ -12,6 +12,3 @@ pub item_some : (place : ℕ) (bytes : List ℕ) → 0 < length bytes → item_f
 item_some place [] h = absurd (omega arith)
 item_some place (code ∷ rest) h = refl
 
--- All bytes but the first.
-pub all_but_first : (bytes : List ℕ) → 0 < length bytes → length bytes - length (take (length bytes - 1) (drop 1 bytes)) ≡ 1
-all_but_first bytes h = simp (length-take, length-drop) (omega arith)

@@ -13,6 +13,8 @@ use Rattle.tape.specs.Items.{Said, said}
 use Rattle.tape.specs.Spots.{Spot}
 use Rattle.tape.specs.Tapes.{unread, after_heading, tape_says, stopped}
 use Rattle.tape.proofs.Backs.{at}
+use Rattle.std.proofs.lemmas.Result.{err_from_is_err_and}
+use Rattle.tape.proofs.Shrinks.{heading_left}
 
 -- What a tape reads as, by its parts.
 pub parts_of : (tape : Tape) (h : Option Heading) (items : List Said) (was fault : Option ProgramFault) → tape.heading ≡ h → map said (vec_items tape.items) ≡ items → was ≡ fault
@@ -31,3 +33,6 @@ says_headed tape r h e = cond-false _ _ _ h ∙ ap after_heading (sym e)
 
 pub blank_items : (items : List Item) → items ≡ [] → map said items ≡ []
 blank_items items e = ap (map said) e
+
+-- What filling a tape is proved with.
+pub ruleset fills = (parts_of, says_long, says_headed, blank_items, err_from_is_err_and, heading_left)

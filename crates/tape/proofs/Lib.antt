@@ -6,6 +6,5 @@ pub mod Judged
 pub mod Parts
 pub mod Readings
 pub mod Shrinks
-pub mod Steps
 pub mod Turns
 pub mod Wholes

@@ -119,12 +119,13 @@ impl<'a> Reader<'a> {
     pub(crate) fn next_item(&mut self) -> Result<Item<'a>, ItemFault>
         ensures { told_item result self.new ≡ item_at self.old }
     {
-        let place = self.place();
-        match self.rest() {
+        let place = self.place;
+        match self.rest {
             [] => Err(ItemFault::Cut { place }),
             [code, fields @ ..] => {
                 let kind = ItemKind::try_from(*code).map_err(|_| ItemFault::Code { place })?;
-                self.leave(fields.len());
+                self.place += 1;
+                self.rest = fields;
                 self.next_fields(kind)
             }
         }

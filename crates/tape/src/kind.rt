@@ -1,5 +1,5 @@
 // The kinds that a tape names by numbers.
-ghost use Rattle.std.specs.Prelude.{◌≡◌, ◌&&◌};
+ghost use Rattle.std.specs.Prelude.{◌≡◌};
 ghost use Rattle.tape.specs.Kinds.{named, manager_of, store_of, item_kind_of, most_words};
 ghost use Rattle.tape.specs.Headings.{fits_store};
 

@@ -8,27 +8,25 @@ use std::marker::Model;
 use tape_number::fault::NumberFault;
 use tape_number::number::decode;
 
-// Where a reader stands on a tape. Place and end are numbers on the tape, since faults are told by them: a slice of what is
-// left would want its place beside it all the same.
+// Where a reader stands on a tape.
 #[derive(Drop)]
 pub(crate) struct Reader<'a> {
-    tape: &'a [u8],
     // The place of the byte that comes next.
-    place: usize,
-    // The place where the tape ends for the reader.
-    end: usize,
+    pub(crate) place: usize,
+    // The bytes from there on.
+    pub(crate) rest: &'a [u8],
 }
 
-// Contracts see the spot: the place, and the bytes from there to the end.
+// Contracts see the spot: the place, and the bytes from there on.
 impl<'a> Model for Reader<'a> {
-    ghost use Rattle.std.specs.Prelude.{◌-◌, ◌≤◌, length, take, drop};
+    ghost use Rattle.std.specs.Prelude.{◌+◌, ◌^◌, ◌<◌, length};
     ghost use Rattle.tape.specs.Spots.{Spot};
 
     ghost Value = { Spot };
 
-    ghost view = { λ r. record { place = r.place; bytes = take (r.end - r.place) (drop r.place r.tape.now) } };
+    ghost view = { λ r. record { place = r.place; bytes = r.rest.now } };
 
-    ghost invariant = { λ r. (r.place ≤ r.end) × (r.end ≤ length r.tape.now) };
+    ghost invariant = { λ r. r.place + length r.rest.now < 2 ^ 64 };
 }
 
 // A fault as it is told where `before` bytes stand in front of those that were read.
@@ -49,9 +47,8 @@ impl<'a> Reader<'a> {
         ensures { result ≡ record { place = 0; bytes = tape.now } }
     {
         Reader {
-            tape,
             place: 0,
-            end: tape.len(),
+            rest: tape,
         }
     }
 
@@ -67,15 +64,7 @@ impl<'a> Reader<'a> {
     pub(crate) fn rest(&self) -> &'a [u8]
         ensures { result.now ≡ self.now.bytes }
     {
-        &self.tape[self.place..self.end]
-    }
-
-    // Goes on until only `left` bytes are left.
-    pub(crate) fn leave(&mut self, left: usize)
-        requires { left ≤ length self.old.bytes }
-        ensures { self.new ≡ past (length self.old.bytes - left) self.old }
-    {
-        self.place = self.end - left;
+        self.rest
     }
 
     // Takes the next `count` bytes.
@@ -84,19 +73,21 @@ impl<'a> Reader<'a> {
         ensures bytes { result.now ≡ take count self.old.bytes }
         ensures after { self.new ≡ past count self.old }
     {
-        let bytes = &self.rest()[..count];
+        let (bytes, rest) = self.rest.split_at(count);
         self.place += count;
+        self.rest = rest;
         bytes
     }
 
     // Takes the number that stands here; where it is at fault, nothing is taken.
+    #[tactic(auto, unfolding(crate::specs::Spots::number_at))]
     pub(crate) fn next_number(&mut self) -> Result<u32, NumberFault>
         ensures number { told result self.new ≡ number_at self.old }
         ensures fault { OnErr result (self.new ≡ self.old) }
     {
         let place = self.place;
-        let (value, taken) = decode(self.rest()).map_err(|fault| shift(fault, place))?;
-        self.place += taken;
+        let (value, taken) = decode(self.rest).map_err(|fault| shift(fault, place))?;
+        self.next_bytes(taken);
         Ok(value)
     }
 }

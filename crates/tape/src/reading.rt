@@ -4,7 +4,7 @@ ghost use Rattle.std.specs.Result.{result_err};
 ghost use Rattle.tape.specs.Faults.{most_bytes};
 ghost use Rattle.tape.specs.Items.{said};
 ghost use Rattle.tape.specs.Laws.{OneTape};
-ghost use Rattle.tape.specs.Tapes.{items_at, in_program, reading, stopped, tape_says, faulty_item};
+ghost use Rattle.tape.specs.Tapes.{items_at, reading, stopped, tape_says, faulty_item};
 
 use crate::fault::{ItemFault, ProgramFault};
 use crate::heading::Heading;
@@ -31,6 +31,7 @@ fn is_too_long(bytes: &[u8]) -> bool
 }
 
 // Adds the items that a reader still has to `items`, which has room for them, up to the tape's end or the first fault.
+#[tactic(auto, using(crate::proofs::Turns::turns))]
 fn read_items<'a>(mut reader: Reader<'a>, items: &mut Vec<Item<'a>>) -> Result<(), ItemFault>
     requires { vec_len items.old + length reader.bytes ≤ vec_capacity items.old }
     ensures items { map said items.new.items ≡ map said items.old.items ++ (items_at reader.entry).items }
@@ -44,6 +45,7 @@ fn read_items<'a>(mut reader: Reader<'a>, items: &mut Vec<Item<'a>>) -> Result<(
 
 impl<'a> Tape<'a> {
     // Reads the heading and the items into a blank tape that has room for an item a byte.
+    #[tactic(auto, using(crate::proofs::Fills::fills))]
     fn fill(&mut self, bytes: &'a [u8]) -> Result<(), ProgramFault>
         requires headless { self.old.heading ≡ None }
         requires blank { (self.old.items.items ≡ []) × (vec_len self.old.items ≡ 0) }

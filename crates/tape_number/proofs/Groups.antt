@@ -1,4 +1,5 @@
 -- One byte of a number: the four ways in which it is read, and what a reading adds to the groups before it.
+use Rattle.std.proofs.lemmas.List.{at_drop_more, at_drop_all}
 use Rattle.std.proofs.Common.{◌≡◌, ℕ, zero, suc, ◌+◌, ◌*◌, ◌%◌, ◌^◌, ◌<◌, ◌≤◌, true, false, List, ◌∷◌, Ok, Err, Result, ⊎_elim, arith}
 use Rattle.std.proofs.lemmas.Bool.{ne_eqb, lt-ltb, le-ltb, cases_eq, cases_lt, and_right, and_left}
 use Rattle.std.proofs.lemmas.Bool.Decides.{nat_tests}
@@ -48,3 +49,6 @@ fits_group (suc (suc (suc (suc (suc i))))) w a d h e l m n = absurd (omega arith
 pub below_err : (d : ℕ) (r : Result (ℕ × ℕ) NumberFault) (fault : NumberFault) → below d r ≡ Err fault → r ≡ Err fault
 below_err d (Ok x) fault e = let z : ◌≡◌ {A = ℕ} 0 1 = cc in absurd (omega arith)
 below_err d (Err f) fault e = e
+
+-- What reading a number byte by byte is proved with.
+pub ruleset groups = (read_high, read_padded, read_last, low_top, fits_group, at_drop_more, at_drop_all)

@@ -57,7 +57,7 @@ fn next_weight(weight: u32) -> u32
 }
 
 // The number at the front of some bytes, and how many of them it takes.
-#[tactic(auto, using(crate::proofs::Forms::one_form))]
+#[tactic(auto, using(crate::proofs::Forms::one_form, crate::proofs::Groups::groups), unfolding(crate::specs::Numbers::read_number))]
 pub fn decode(bytes: &[u8]) -> Result<(u32, usize), NumberFault>
     ensures value { result ≡ read_number bytes.now }
     ensures within { MatchResult result (λ x. (0 < x.1) × (x.1 ≤ length bytes.now)) (λ f. number_place f ≤ length bytes.now) }

@@ -81,6 +81,7 @@ fn show_step<M: ContentionManager>(
 }
 
 // Tells a manager a story and prints how it goes. At the end all jobs have ended.
+#[tactic(auto, using(crate::proofs::Told::told))]
 fn show_story<M: ContentionManager>(
     rt: &impl Print,
     manager: &mut M,
