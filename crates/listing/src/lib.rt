@@ -14,7 +14,7 @@ use tape::kind::{ManagerKind, StoreKind};
 use tape::reading::{Tape, read_tape};
 
 // A part of a tape, or a whole tape, in the words of a listing.
-#[derive(Clone, Copy, Debug)]
+#[derive(Clone, Copy, Debug, PartialEq, Eq)]
 pub struct InWords<T>(pub T);
 
 impl fmt::Display for InWords<ManagerKind> {

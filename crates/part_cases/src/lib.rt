@@ -31,8 +31,18 @@ mod tests {
         }
     }
 
+    // The same for the front of some memory, of each length in a table.
+    fn all_open_with<T: MemoryCell>(memory: &mut [T], cases: &[(usize, Option<usize>)]) -> bool {
+        for &(length, words) in cases {
+            if length > memory.len() || !opens_with(&mut memory[..length], words) {
+                return false;
+            }
+        }
+        true
+    }
+
     // How many numbers are lent, and how many words a store on them has, if it is opened.
-    const NUMBERS: [(usize, Option<usize>); 5] = [
+    const NUMBERS: &[(usize, Option<usize>)] = &[
         (0, None),
         (1, Some(1)),
         (4095, Some(4095)),
@@ -40,18 +50,8 @@ mod tests {
         (4097, None),
     ];
 
-    #[test]
-    fn number_stores(rt: HostRuntime) -> Result<(), Fail> {
-        let mut numbers = vec![in rt.alloc(); 0u32; 4097]?;
-        for (length, words) in NUMBERS {
-            assert!(rt; length <= numbers.len());
-            assert!(rt; opens_with(&mut numbers[..length], words));
-        }
-        Ok(())
-    }
-
     // How many bytes are lent, and how many words a store on them has, if it is opened.
-    const BYTES: [(usize, Option<usize>); 10] = [
+    const BYTES: &[(usize, Option<usize>)] = &[
         (0, None),
         (1, None),
         (3, None),
@@ -65,17 +65,21 @@ mod tests {
     ];
 
     #[test]
-    fn byte_stores(rt: HostRuntime) -> Result<(), Fail> {
-        let mut bytes = vec![in rt.alloc(); 0u8; 16_388]?;
-        for (length, words) in BYTES {
-            assert!(rt; length <= bytes.len());
-            assert!(rt; opens_with(&mut bytes[..length], words));
-        }
+    fn number_stores(rt: HostRuntime) -> Result<(), Fail> {
+        let mut numbers = vec![in rt.alloc(); 0u32; 4097]?;
+        assert!(rt; all_open_with(&mut numbers, NUMBERS));
         Ok(())
     }
 
-    // A window's first word and number of words, and whether a store of 16 words has it.
-    const WINDOWS: [(u32, u32, bool); 11] = [
+    #[test]
+    fn byte_stores(rt: HostRuntime) -> Result<(), Fail> {
+        let mut bytes = vec![in rt.alloc(); 0u8; 16_388]?;
+        assert!(rt; all_open_with(&mut bytes, BYTES));
+        Ok(())
+    }
+
+    // A window's first word and number of words, and whether a store of 16 words has it: how many words it then has is given.
+    const WINDOWS: &[(u32, u32, bool)] = &[
         (0, 0, false),
         (0, 1, true),
         (0, 16, true),
@@ -91,7 +95,7 @@ mod tests {
 
     #[test]
     fn windows(rt: HostRuntime) -> Result<(), Fail> {
-        for (first, count, opens) in WINDOWS {
+        for &(first, count, opens) in WINDOWS {
             let mut words = [0u32; 16];
             let store = NumberStore::open(&mut words)?;
             match Window::open(store, first, count) {
@@ -157,7 +161,7 @@ mod tests {
     }
 
     // How many words a job has written, and whether two-phase gives it a rank then.
-    const WRITTEN: [(usize, bool); 5] = [
+    const WRITTEN: &[(usize, bool)] = &[
         (0, false),
         (1, false),
         (9, false),
@@ -167,7 +171,7 @@ mod tests {
 
     #[test]
     fn tenth_word(rt: HostRuntime) {
-        for (length, gives) in WRITTEN {
+        for &(length, gives) in WRITTEN {
             let mut manager = Ranked::new(TwoPhase, 1);
             manager.began(3);
             manager.wrote(3, length);
@@ -176,7 +180,7 @@ mod tests {
     }
 
     // Two jobs, and whether the first yields to the second: job 0 has rank 3, job 1 rank 5, jobs 2 and above none.
-    const YIELDING: [(usize, usize, bool); 9] = [
+    const YIELDING: &[(usize, usize, bool)] = &[
         (1, 0, true),
         (0, 1, false),
         (0, 2, false),
@@ -198,7 +202,7 @@ mod tests {
         assert_eq!(rt; manager.rank(0), Some(3));
         assert_eq!(rt; manager.rank(1), Some(5));
         assert_eq!(rt; manager.next_rank(), 6);
-        for (job, other, yields) in YIELDING {
+        for &(job, other, yields) in YIELDING {
             assert_eq!(rt; manager.yields(job, other), yields);
         }
     }

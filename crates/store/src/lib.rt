@@ -20,7 +20,8 @@ pub trait Store {
     // The words.
     ghost words: { Self → List ℕ };
 
-    // What the store stands on, apart from the words. It never changes.
+    // What the store stands on, apart from the words. It never changes: each call that writes says so, since a type can keep
+    // no fact of two of its values.
     ghost footing: { Self → Ground };
 
     // How many words there are.

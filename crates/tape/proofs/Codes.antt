@@ -1,5 +1,5 @@
 -- An item from its first byte on.
-use Rattle.std.proofs.Common.{◌≡◌, ℕ, ◌+◌, ◌-◌, ◌<◌, List, [], ◌∷◌, length, get_or, take, drop, Err, refl, arith, length-take, length-drop}
+use Rattle.std.proofs.Common.{◌≡◌, ℕ, ◌+◌, ◌<◌, List, [], ◌∷◌, length, get_or, drop, Err, refl, arith}
 use Rattle.tape.specs.declared.fault.ItemFault.TheVariants.{Cut}
 use Rattle.tape.specs.Kinds.{item_kind_of}
 use Rattle.tape.specs.Items.{item_from, coded}
@@ -11,4 +11,3 @@ item_none place (code ∷ rest) e = absurd (omega arith)
 pub item_some : (place : ℕ) (bytes : List ℕ) → 0 < length bytes → item_from place bytes ≡ coded place (item_kind_of (get_or bytes 0 0)) (record { place = place + 1; bytes = drop 1 bytes })
 item_some place [] h = absurd (omega arith)
 item_some place (code ∷ rest) h = refl
-

@@ -54,8 +54,8 @@ impl<'a> Reader<'a> {
             return Err(ItemFault::Length { place });
         }
         let len = len as usize;
-        let first = self.place();
-        let left = self.rest().len();
+        let first = self.place;
+        let left = self.rest.len();
         if left < len {
             return Err(ItemFault::Cut {
                 place: first + left,
@@ -76,7 +76,7 @@ impl<'a> Reader<'a> {
     fn next_remark(&mut self) -> Result<Item<'a>, ItemFault>
         ensures { told_item result self.new ≡ remark_at self.old }
     {
-        let place = self.place();
+        let place = self.place;
         let len = self.next_number()?;
         self.remark_of(place, len)
     }

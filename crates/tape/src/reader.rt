@@ -1,5 +1,5 @@
 // Reading a tape from its front.
-ghost use Rattle.std.specs.Prelude.{◌≡◌, ◌+◌, ◌-◌, ◌^◌, ◌<◌, ◌≤◌, length, take, OnErr};
+ghost use Rattle.std.specs.Prelude.{◌≡◌, ◌==◌, ◌+◌, ◌-◌, ◌^◌, ◌<◌, ◌≤◌, length, take, OnErr};
 ghost use Rattle.tape_number.specs.Numbers.{number_place};
 ghost use Rattle.tape.specs.Faults.{shifted};
 ghost use Rattle.tape.specs.Spots.{past, told, number_at};
@@ -52,19 +52,11 @@ impl<'a> Reader<'a> {
         }
     }
 
-    // The place of the byte that comes next.
-    pub(crate) fn place(&self) -> usize
-        ensures value { result ≡ self.now.place }
-        ensures within { result + length self.now.bytes < 2 ^ 64 }
+    // Whether no byte is left.
+    pub(crate) fn is_at_end(&self) -> bool
+        ensures { result ≡ (length self.now.bytes == 0) }
     {
-        self.place
-    }
-
-    // The bytes from there on.
-    pub(crate) fn rest(&self) -> &'a [u8]
-        ensures { result.now ≡ self.now.bytes }
-    {
-        self.rest
+        self.rest.is_empty()
     }
 
     // Takes the next `count` bytes.

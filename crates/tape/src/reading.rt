@@ -37,7 +37,7 @@ fn read_items<'a>(mut reader: Reader<'a>, items: &mut Vec<Item<'a>>) -> Result<(
     ensures items { map said items.new.items ≡ map said items.old.items ++ (items_at reader.entry).items }
     ensures fault { result_err result ≡ (items_at reader.entry).fault }
 {
-    while !reader.rest().is_empty() {
+    while !reader.is_at_end() {
         items.push_reserved(reader.next_item()?);
     }
     Ok(())
@@ -62,7 +62,7 @@ impl<'a> Tape<'a> {
         Ok(())
     }
 
-    // The number of the item at fault, 0 where it is the heading, or the whole tape.
+    // The number of the item at fault. Where it is the heading, or the whole tape, that is 0, as a listing has it.
     pub fn faulty_item(&self) -> usize
         ensures { result ≡ faulty_item (reading self.now) }
     {

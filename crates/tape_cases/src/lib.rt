@@ -11,7 +11,7 @@ mod tests {
         listing: &'static str,
     }
 
-    const CASES: [Case; 71] = [
+    const CASES: &[Case] = &[
         // The worked tape.
         Case {
             tape: b"\x00\x00\x08\x00\x01\x01\x00\x01\x01\x03\x00\x05\x07\x02\x01\x05\x04\x00\x02\x01\x06\x05\x00\x02\x01\x06\x01\x01\x02\x01\x05\x04\x01",
@@ -323,7 +323,7 @@ mod tests {
 
     #[test]
     fn listings(rt: HostRuntime) -> Result<(), Fail> {
-        for case in &CASES {
+        for case in CASES {
             let text = list_bytes(rt.alloc(), case.tape)?;
             assert_eq!(rt; text.as_str(), case.listing);
         }

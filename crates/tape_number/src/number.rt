@@ -9,7 +9,7 @@ use std::alloc::AllocError;
 const HIGH: u8 = 128;
 
 // How many values a group has.
-const GROUP: u32 = 128;
+const GROUP: u32 = HIGH as u32;
 
 // The last group that a number can have, counted from 0.
 const LAST_GROUP: usize = 4;

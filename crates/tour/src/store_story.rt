@@ -81,8 +81,7 @@ fn show_refusal(rt: &impl Print, refusal: Refusal) -> io::Result<()> {
     println!(rt; "  {answer}")
 }
 
-// Does some steps on a window of a store, and gives the store back: the words outside the window are as they were. That it
-// still stands on the same, here and below, is no fact of one store that its type could keep.
+// Does some steps on a window of a store, and gives the store back: the words outside the window are as they were.
 #[tactic(auto, using(crate::proofs::Within::seen))]
 fn show_window<S: Store + Drop>(
     rt: &impl Print,

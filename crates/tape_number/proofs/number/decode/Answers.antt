@@ -1,9 +1,6 @@
-use Rattle.std.proofs.Common.{◌≡◌, ℕ, ◌+◌, ◌*◌, ◌%◌, ◌^◌, ◌<◌, ◌≤◌, false, List, ◌∷◌, length, get_or, drop, Ok, Err, Result, sym, ap, ◌∙◌, arith}
-use Rattle.std.proofs.lemmas.List.{at_drop_more, at_drop_all}
-use Rattle.tape_number.specs.declared.fault.NumberFault.{NumberFault}
-use Rattle.tape_number.specs.declared.fault.NumberFault.TheVariants.{Cut}
-use Rattle.tape_number.specs.Numbers.{read_groups, read_number, over_top}
-use Rattle.tape_number.proofs.Groups.{above, fits_group, low_top, read_high, read_padded, read_last}
+use Rattle.std.proofs.Common.{◌≡◌, ℕ, ◌+◌, ◌*◌, ◌%◌, ◌^◌, ◌<◌, ◌≤◌, false, sym, arith}
+use Rattle.tape_number.specs.Numbers.{over_top}
+use Rattle.tape_number.proofs.Groups.{fits_group, low_top}
 use Rattle.tape_number.proofs.number.decode.Goals as goal
 
 -- The group d of the byte b fits above the groups before it.

@@ -1,13 +1,7 @@
-use Rattle.std.proofs.Common.{◌≤◌, List, ◌++◌, length, Some, None, Err, sym, ap, ◌∙◌, refl, subst, arith, ltb-false}
-use Rattle.std.proofs.lemmas.Result.{err_from_is_err_and}
-use Rattle.std.specs.Result.{result_err}
-use Rattle.tape.specs.declared.reading.Tape.{Tape}
+use Rattle.std.proofs.Common.{◌≤◌, length, sym, ap, ◌∙◌, subst, arith, ltb-false}
 use Rattle.tape.specs.Headings.{heading_at}
-use Rattle.tape.specs.Items.{Said}
-use Rattle.tape.specs.Tapes.{items_at, in_program}
 use Rattle.tape.proofs.Backs.{at}
 use Rattle.tape.proofs.Shrinks.{Left, heading_left}
-use Rattle.tape.proofs.Fills.{parts_of, says_long, says_headed, blank_items}
 use Rattle.tape.proofs.reading.Tape.fill.Goals as goal
 
 pub read_items-requires : goal.read_items-requires
