@@ -1,5 +1,5 @@
--- A place past the end of a list, and lists told by their elements.
+-- A rank taken away.
 use lib.Seq.{set_out}
 
--- What taking a rank away is proved with.
+-- A list stays as it is where an element is set past its end.
 pub ruleset outs = (set_out)
