@@ -36,6 +36,7 @@ impl RankTable {
     pub fn give(&mut self, job: usize)
         ensures { self.new ≡ after_event true job self.old }
     {
+        // The greatest number says that none is left, since any number may be the next one.
         // By its index: of an array that was lent to `get_mut` no proof knows what it holds afterwards.
         if let Some(None) = self.ranks.get(job)
             && self.next < u32::MAX

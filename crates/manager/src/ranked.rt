@@ -7,7 +7,7 @@ use crate::event::Event;
 use crate::rank_table::RankTable;
 use crate::rules::RankRule;
 
-// The table keeps the law of the ranks.
+// The ranks of its table keep the law.
 #[derive(Drop)]
 pub struct Ranked<R> {
     table: RankTable,

@@ -22,7 +22,8 @@ mod tests {
             && store.read(count) == Err(Refusal::BeyondBook)
     }
 
-    // Whether a store is opened on memory as it should be, and has so many words, or is refused.
+    // Whether a store is opened on memory as it should be, and has so many words, or is refused. Refusals are compared, here
+    // and below, by their numbers: those are what is told.
     fn opens_with<T: MemoryCell>(memory: &mut [T], words: Option<usize>) -> bool {
         match (LentStore::open(memory), words) {
             (Ok(store), Some(count)) => has_words(&store, count),
@@ -34,7 +35,10 @@ mod tests {
     // The same for the front of some memory, of each length in a table.
     fn all_open_with<T: MemoryCell>(memory: &mut [T], cases: &[(usize, Option<usize>)]) -> bool {
         for &(length, words) in cases {
-            if length > memory.len() || !opens_with(&mut memory[..length], words) {
+            let Some(front) = memory.get_mut(..length) else {
+                return false;
+            };
+            if !opens_with(front, words) {
                 return false;
             }
         }

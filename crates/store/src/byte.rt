@@ -19,7 +19,7 @@ impl MemoryCell for u8 {
     ghost is_length = { is_byte_length };
 
     fn are_book(memory: &[u8]) -> bool {
-        memory.len() % WORD_BYTES == 0 && fits_book(memory.len() / WORD_BYTES)
+        memory.len() % WORD_BYTES == 0 && fits_book(Self::count(memory))
     }
 
     fn count(memory: &[u8]) -> usize {
@@ -33,10 +33,8 @@ impl MemoryCell for u8 {
     }
 
     fn write(memory: &mut [u8], word: usize, value: u32) -> Result<(), Refusal> {
+        Self::read(memory, word)?;
         // By the range: of `as_chunks_mut` no clause says what the slice ends as.
-        if word >= memory.len() / WORD_BYTES {
-            return Err(Refusal::BeyondBook);
-        }
         let place = WORD_BYTES * word;
         memory[place..place + WORD_BYTES].copy_from_slice(&value.to_be_bytes());
         Ok(())

@@ -27,10 +27,8 @@ impl MemoryCell for u32 {
     }
 
     fn write(memory: &mut [u32], word: usize, value: u32) -> Result<(), Refusal> {
+        Self::read(memory, word)?;
         // By the index: of `get_mut` of a slice no clause says what the slice ends as.
-        if word >= memory.len() {
-            return Err(Refusal::BeyondBook);
-        }
         memory[word] = value;
         Ok(())
     }

@@ -26,8 +26,8 @@ pub struct Window<S: Store> {
 }
 
 impl<S: Store> Window<S> {
-    // A store that means `count` words of the store below, from its word `first` on. They are two parameters, here and where
-    // windows are asked for: a struct of the two would stand between every caller and the numbers that it has.
+    // A store that means `count` words of the store below, from its word `first` on. First word and count are two parameters, here and
+    // where windows are asked for: a struct of the two would stand between every caller and the numbers that it has.
     pub fn open(store: S, first: u32, count: u32) -> Result<Window<S>, Unopened<S>>
         ensures { Opening (is_inside first count (length (S.words store))) (λ s. (s.store ≡ store) × (s.first ≡ first) × (s.count ≡ count)) BadWindow store result }
     {

@@ -4,7 +4,7 @@ use Rattle.tape_number.specs.declared.fault.NumberFault.{NumberFault}
 use Rattle.tape.specs.Faults.{shifted}
 use Rattle.tape_number.specs.Numbers.{read_number}
 
--- A spot on a tape: its place, counted in bytes from 0, and the bytes from there to the reader's end.
+-- A spot on a tape: its place, counted in bytes from 0, and the bytes from there on.
 pub record Spot : Type 0 where
   pub place : ℕ
   pub bytes : List ℕ

@@ -10,7 +10,8 @@ use manager::{ContentionManager, JOBS};
 use std::{fmt, io};
 
 // What a manager can be told or asked.
-// A step is data and no closure: it is printed, and definitions go by its cases.
+// A step is data and no closure: it is printed, and definitions go by its cases. Each is a call of its own, so that the first
+// two are no `Event` of the manager's.
 #[derive(Clone, Copy, Debug, PartialEq, Eq)]
 pub enum ManagerStep {
     Began { job: usize },

@@ -188,7 +188,7 @@ trait ShownCell: MemoryCell {
     // What a cell is called.
     const NAME: &'static str;
 
-    // Writes cells, after a blank.
+    // Writes cells, after a blank. A call and no `Display`, since it prints a slice.
     fn fmt_cells<W: fmt::Write>(memory: &[Self], f: &mut fmt::Formatter<W>) -> fmt::Result;
 }
 
