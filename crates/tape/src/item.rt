@@ -37,7 +37,7 @@ fn is_remark_length(len: u32) -> bool
     (1..=MOST_REMARK).contains(&len)
 }
 
-// How many bytes at the front may all stand in a remark.
+// How many bytes at the front may all stand in a remark. (By `position`, two goals of `remark_of` stayed open.)
 fn count_printable(bytes: &[u8]) -> usize
     ensures value { result ≡ printable_front bytes.now }
     ensures within { result ≤ length bytes.now }
