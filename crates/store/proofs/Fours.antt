@@ -6,7 +6,7 @@ use Rattle.std.proofs.lemmas.Grind.{common_steps}
 use Rattle.std.proofs.lemmas.List.{get_or-map}
 use Rattle.std.specs.Int.{from_be_bytes, to_be_bytes}
 use Rattle.std.specs.Simd.{first_chunks}
-use Rattle.store.specs.Bytes.{bytes_of_words, word_of, words_of_bytes}
+use Rattle.store.specs.Bytes.{bytes_left_over, bytes_of_words, word_of, words_of_bytes}
 
 -- There is a word for every four bytes.
 pub length_words : (bytes : List ℕ) → length (words_of_bytes bytes) ≡ length bytes / 4
@@ -103,6 +103,20 @@ bytes_back (p ∷ q ∷ r ∷ s ∷ rest) all e =
     let parts = parts_of_word p q r s (all 0) (all 1) (all 2) (all 3) in
     cc
 
+-- The bytes left over stay where the bytes of a word are put in.
+left_over_put : (bytes : List ℕ) (a v : ℕ) → a < length bytes / 4 → bytes_left_over (put_mid (4 * a) 4 bytes (to_be_bytes w32 v)) ≡ bytes_left_over bytes
+left_over_put [] a v h = absurd (omega arith)
+left_over_put (p ∷ []) a v h = absurd (omega arith)
+left_over_put (p ∷ q ∷ []) a v h = absurd (omega arith)
+left_over_put (p ∷ q ∷ r ∷ []) a v h = absurd (omega arith)
+left_over_put (p ∷ q ∷ r ∷ s ∷ rest) zero v h = refl
+left_over_put (p ∷ q ∷ r ∷ s ∷ rest) (suc a) v h =
+    let k : a < length rest / 4 = omega arith in
+    rw (put_further a p q r s rest (to_be_bytes w32 v)) (left_over_put rest a v k)
+
+pub left_over_written : (bytes part : List ℕ) (a k v : ℕ) → a < length bytes / 4 → k ≡ 4 → part ≡ to_be_bytes w32 v → bytes_left_over (put_mid (4 * a) k bytes part) ≡ bytes_left_over bytes
+left_over_written bytes part a k v h four_bytes same = rw (four_bytes, same) (left_over_put bytes a v h)
+
 -- The words of memory in which the bytes of a word were made anew.
 pub words_written : (bytes part : List ℕ) (a k v : ℕ) → a < length bytes / 4 → v < 2 ^ 32 → k ≡ 4 → part ≡ to_be_bytes w32 v →
     set (words_of_bytes bytes) a v ≡ words_of_bytes (put_mid (4 * a) k bytes part)
@@ -117,4 +131,4 @@ exact_written bytes part a k v h fits four_bytes same exact =
     rw (four_bytes, same) (ap bytes_of_words (words_put bytes a v h fits) ∙ bytes_set (words_of_bytes bytes) a v there ∙ ap (λ l. put_mid (4 * a) 4 l (to_be_bytes w32 v)) exact)
 
 -- What the calls of a byte store's memory are proved with.
-pub ruleset fours = (bytes_back, exact_written, length_words, word_of_chunk, words_fit, words_written, common_steps)
+pub ruleset fours = (bytes_back, exact_written, left_over_written, length_words, word_of_chunk, words_fit, words_written, common_steps)

@@ -18,6 +18,14 @@ words_of_bytes (a ∷ b ∷ []) = []
 words_of_bytes (a ∷ b ∷ c ∷ []) = []
 words_of_bytes (a ∷ b ∷ c ∷ d ∷ rest) = word_of a b c d ∷ words_of_bytes rest
 
+-- The bytes left over at the end, behind those of the last word.
+abbrev pub bytes_left_over : List ℕ → List ℕ
+bytes_left_over [] = []
+bytes_left_over (a ∷ []) = a ∷ []
+bytes_left_over (a ∷ b ∷ []) = a ∷ b ∷ []
+bytes_left_over (a ∷ b ∷ c ∷ []) = a ∷ b ∷ c ∷ []
+bytes_left_over (a ∷ b ∷ c ∷ d ∷ rest) = bytes_left_over rest
+
 -- The bytes that words are: four for each.
 abbrev pub bytes_of_words : List ℕ → List ℕ
 bytes_of_words [] = []

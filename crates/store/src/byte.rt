@@ -1,5 +1,5 @@
 // The byte store.
-ghost use Rattle.store.specs.Bytes.{bytes_of_words, is_byte_length, words_of_bytes};
+ghost use Rattle.store.specs.Bytes.{bytes_left_over, bytes_of_words, is_byte_length, words_of_bytes};
 
 use crate::lent::{LentStore, MemoryCell};
 use book::{Refusal, fits_book};
@@ -15,6 +15,8 @@ impl MemoryCell for u8 {
     ghost words = { words_of_bytes };
 
     ghost cells = { bytes_of_words };
+
+    ghost left_over = { bytes_left_over };
 
     ghost is_length = { is_byte_length };
 

@@ -19,6 +19,9 @@ pub trait MemoryCell {
     // The cells that words are.
     ghost cells: { List ℕ → List Self };
 
+    // The cells that are no part of a word.
+    ghost left_over: { List Self → List Self };
+
     // Whether so many cells are the words of a book.
     ghost is_length: { ℕ → Bool };
 
@@ -40,6 +43,7 @@ pub trait MemoryCell {
     fn write(memory: &mut [Self], word: usize, value: u32) -> Result<(), Refusal>
         ensures answer { result ≡ writing (words memory.old) word }
         ensures after { words memory.new ≡ slice_set (words memory.old) word value }
+        ensures aside { left_over memory.new ≡ left_over memory.old }
         ensures is_exact { cells (words memory.old) ≡ memory.old → cells (words memory.new) ≡ memory.new };
 }
 

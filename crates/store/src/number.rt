@@ -1,4 +1,5 @@
 // The number store.
+ghost use Rattle.std.specs.Prelude.{[]};
 ghost use Rattle.book.specs.Lengths.{is_book_length};
 
 use crate::lent::{LentStore, MemoryCell};
@@ -11,6 +12,8 @@ impl MemoryCell for u32 {
     ghost words = { λ numbers. numbers };
 
     ghost cells = { λ words. words };
+
+    ghost left_over = { λ _. [] };
 
     ghost is_length = { is_book_length };
 
