@@ -1,5 +1,5 @@
 -- Words as bytes, four by four.
-use Rattle.std.proofs.Common.{◌≡◌, ℕ, zero, suc, ◌+◌, ◌*◌, ◌/◌, ◌%◌, ◌^◌, ◌<◌, List, [], ◌∷◌, length, get_or, map, set, w32, refl, sym, ap, ◌∙◌, mod-eq_of_lt, arith}
+use Rattle.std.proofs.Common.{◌≡◌, ℕ, zero, suc, ◌+◌, ◌*◌, ◌/◌, ◌%◌, ◌^◌, ◌<◌, List, [], ◌∷◌, ◌++◌, length, get_or, map, set, w32, refl, sym, ap, ◌∙◌, mod-eq_of_lt, arith}
 use native.Mathlib.Nat.{div-div-eq-div-mul}
 use borrow.Rule.Slice.PartMut.{put_mid}
 use Rattle.std.proofs.lemmas.Grind.{common_steps}
@@ -117,6 +117,17 @@ left_over_put (p ∷ q ∷ r ∷ s ∷ rest) (suc a) v h =
 pub left_over_written : (bytes part : List ℕ) (a k v : ℕ) → a < length bytes / 4 → k ≡ 4 → part ≡ to_be_bytes w32 v → bytes_left_over (put_mid (4 * a) k bytes part) ≡ bytes_left_over bytes
 left_over_written bytes part a k v h four_bytes same = rw (four_bytes, same) (left_over_put bytes a v h)
 
+-- Bytes are those of their words, and behind them those left over.
+pub bytes_whole : (bytes : List ℕ) → ((i : ℕ) → get_or bytes i 0 < 256) → bytes_of_words (words_of_bytes bytes) ++ bytes_left_over bytes ≡ bytes
+bytes_whole [] all = refl
+bytes_whole (p ∷ []) all = refl
+bytes_whole (p ∷ q ∷ []) all = refl
+bytes_whole (p ∷ q ∷ r ∷ []) all = refl
+bytes_whole (p ∷ q ∷ r ∷ s ∷ rest) all =
+    let whole = bytes_whole rest (λ i. all (suc (suc (suc (suc i))))) in
+    let parts = parts_of_word p q r s (all 0) (all 1) (all 2) (all 3) in
+    cc
+
 -- The words of memory in which the bytes of a word were made anew.
 pub words_written : (bytes part : List ℕ) (a k v : ℕ) → a < length bytes / 4 → v < 2 ^ 32 → k ≡ 4 → part ≡ to_be_bytes w32 v →
     set (words_of_bytes bytes) a v ≡ words_of_bytes (put_mid (4 * a) k bytes part)
@@ -131,4 +142,4 @@ exact_written bytes part a k v h fits four_bytes same exact =
     rw (four_bytes, same) (ap bytes_of_words (words_put bytes a v h fits) ∙ bytes_set (words_of_bytes bytes) a v there ∙ ap (λ l. put_mid (4 * a) 4 l (to_be_bytes w32 v)) exact)
 
 -- What the calls of a byte store's memory are proved with.
-pub ruleset fours = (bytes_back, exact_written, left_over_written, length_words, word_of_chunk, words_fit, words_written, common_steps)
+pub ruleset fours = (bytes_back, bytes_whole, exact_written, left_over_written, length_words, word_of_chunk, words_fit, words_written, common_steps)

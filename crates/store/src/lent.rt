@@ -1,5 +1,5 @@
 // Stores on lent memory.
-ghost use Rattle.std.specs.Prelude.{◌≡◌, ℕ, Bool, IsTrue, List, length, if◌then◌else◌, Err, slice_set};
+ghost use Rattle.std.specs.Prelude.{◌≡◌, ℕ, ◌++◌, Bool, IsTrue, List, length, if◌then◌else◌, Err, slice_set};
 ghost use Rattle.book.specs.declared.Refusal.TheVariants.{BadLength};
 ghost use Rattle.store.specs.Grounds.{Lent};
 ghost use Rattle.store.specs.Openings.{Opening};
@@ -31,9 +31,10 @@ pub trait MemoryCell {
         ensures means_book { IsTrue result → Book (words memory.now) }
         ensures is_exact { IsTrue result → cells (words memory.now) ≡ memory.now };
 
-    // How many words these cells are.
+    // How many words these cells are; the cells are those of the words, and behind them those left over.
     fn count(memory: &[Self]) -> usize
-        ensures { result ≡ length (words memory.now) };
+        ensures value { result ≡ length (words memory.now) }
+        ensures whole { cells (words memory.now) ++ left_over memory.now ≡ memory.now };
 
     // The word; refused where there is none of that number.
     fn read(memory: &[Self], word: usize) -> Result<u32, Refusal>
