@@ -6,7 +6,7 @@ ghost use Rattle.tape.specs.Items.{said};
 ghost use Rattle.tape.specs.Tapes.{reading, tape_says};
 ghost use Rattle.listing.specs.Lines.{manager_name, store_name, heading_text, item_text, listing_text, RemarksStand};
 
-use std::alloc::{AllocError, Global};
+use std::alloc::Global;
 use std::fmt;
 use tape::heading::Heading;
 use tape::item::Item;
@@ -110,16 +110,16 @@ impl fmt::Display for InWords<&Tape<'_>> {
     }
 }
 
-// The listing of a tape; without memory for it, an error.
-pub fn list(heap: Global, tape: &Tape) -> Result<String, AllocError>
+// The listing of a tape; without memory for it, the error that writing text has.
+pub fn list(heap: Global, tape: &Tape) -> Result<String, fmt::Error>
     ensures { IfOk result (λ text. string_bytes text ≡ listing_text (reading tape.now)) }
 {
-    InWords(tape).to_string(heap)
+    Ok(InWords(tape).to_string(heap)?)
 }
 
 // What is listed of the tape that some bytes are, each remark as it stands there; without memory for it, an error.
 #[tactic(auto, using(crate::proofs::Stands::remarks_stand))]
-pub fn list_bytes(heap: Global, bytes: &[u8]) -> Result<String, AllocError>
+pub fn list_bytes(heap: Global, bytes: &[u8]) -> Result<String, fmt::Error>
     ensures text { IfOk result (λ text. string_bytes text ≡ listing_text (tape_says bytes.now)) }
     ensures remarks { RemarksStand }
 {

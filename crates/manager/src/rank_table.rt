@@ -6,7 +6,7 @@ use crate::JOBS;
 use std::marker::Model;
 
 // The ranks of the eight jobs, and the next number.
-#[derive(Drop)]
+#[derive(Clone, Copy, Debug, PartialEq, Eq)]
 pub struct RankTable {
     ranks: [Option<u32>; JOBS],
     next: u32,
@@ -17,6 +17,8 @@ impl Model for RankTable {
     ghost Value = { Ranks };
 
     ghost view = { λ table. record { of_jobs = table.ranks; next = table.next } };
+
+    ghost inverse = { λ ranks. record { ranks = ranks.of_jobs; next = ranks.next } };
 
     ghost invariant = { λ table. length table.ranks ≡ jobs };
 }

@@ -25,7 +25,7 @@ impl Reader<'_> {
     fn next_kind<K: TryFrom<u32, Error = UnknownKind>>(&mut self) -> Result<K, HeadingFault>
         ensures { (kind_of : ℕ → Option K) → Converts K.try_from_gives kind_of → told result self.new ≡ kind_at kind_of self.old }
     {
-        let place = self.place;
+        let place = self.place();
         let number = self.next_number()?;
         K::try_from(number).map_err(|_| HeadingFault::Kind { place })
     }
@@ -34,7 +34,7 @@ impl Reader<'_> {
     fn next_words(&mut self, store: StoreKind) -> Result<u32, HeadingFault>
         ensures { told result self.new ≡ words_at store self.old }
     {
-        let place = self.place;
+        let place = self.place();
         let words = self.next_number()?;
         if store.fits(words) {
             Ok(words)

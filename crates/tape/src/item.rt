@@ -54,7 +54,7 @@ impl<'a> Reader<'a> {
             return Err(ItemFault::Length { place });
         }
         let len = len as usize;
-        let first = self.place;
+        let first = self.place();
         let left = self.rest.len();
         if left < len {
             return Err(ItemFault::Cut {
@@ -76,7 +76,7 @@ impl<'a> Reader<'a> {
     fn next_remark(&mut self) -> Result<Item<'a>, ItemFault>
         ensures { told_item result self.new ≡ remark_at self.old }
     {
-        let place = self.place;
+        let place = self.place();
         let len = self.next_number()?;
         self.remark_of(place, len)
     }
@@ -119,12 +119,11 @@ impl<'a> Reader<'a> {
     pub(crate) fn next_item(&mut self) -> Result<Item<'a>, ItemFault>
         ensures { told_item result self.new ≡ item_at self.old }
     {
-        let place = self.place;
+        let place = self.place();
         match self.rest {
             [] => Err(ItemFault::Cut { place }),
             [code, fields @ ..] => {
                 let kind = ItemKind::try_from(*code).map_err(|_| ItemFault::Code { place })?;
-                self.place += 1;
                 self.rest = fields;
                 self.next_fields(kind)
             }

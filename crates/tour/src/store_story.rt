@@ -31,7 +31,7 @@ impl fmt::Display for StoreStep {
 }
 
 // What is answered to a step: a value where one was asked for, or why it was refused.
-#[derive(Debug, PartialEq, Eq, Drop)]
+#[derive(Clone, Copy, Debug, PartialEq, Eq)]
 struct StoreAnswer(Result<Option<u32>, Refusal>);
 
 impl fmt::Display for StoreAnswer {
