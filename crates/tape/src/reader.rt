@@ -29,7 +29,9 @@ impl<'a> Model for Reader<'a> {
     ghost invariant = { λ r. length r.rest.now ≤ r.end };
 }
 
-// A fault as it is told where `before` bytes stand in front of those that were read.
+// A fault as it is told where `before` bytes stand in front of those that were read. It is called and not inlined, since
+// faults are rare, and reading without one is faster so.
+#[inline(never)]
 fn shift(fault: NumberFault, before: usize) -> NumberFault
     requires { before + number_place fault < 2 ^ 64 }
     ensures { result ≡ shifted before fault }
